@@ -1,0 +1,12 @@
+use Rattle.std.proofs.Common.{◌≤◌, length, drop, ap, arith, Some}
+use Rattle.std.proofs.lemmas.Grind.{common_steps}
+use Rattle.bes_io.proofs.Taking.{copied, none_left}
+use Rattle.bes_io.proofs.memory_forms.MemSourceSource.take.Goals as goal
+
+pub returns-clause-bytes : goal.returns-clause-bytes
+returns-clause-bytes c =
+    let le : c.min-n.result ≤ length (drop c.self.inside.at c.self.inside.bytes.items) = grind (arith, common_steps) in
+    rw (← c.self.view_is) (
+      ap Some (copied c.self.inside.bytes.items c.args.into.now _ c.self.inside.at c.min-n.result (grind (arith, common_steps)) le),
+      λ zero rest e. none_left rest (grind (arith, common_steps)),
+    )

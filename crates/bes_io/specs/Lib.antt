@@ -1,0 +1,11 @@
+pub mod Letter
+pub mod Causes
+pub mod Streams
+pub mod Forms
+pub mod Reader
+pub mod Placed
+pub mod Bytes
+pub mod Lines
+pub mod Standard
+pub mod LineLaws
+pub mod Steps

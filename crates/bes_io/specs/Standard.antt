@@ -1,0 +1,38 @@
+-- What contracts see of the real outside: how often it failed, and its reader or writer, of which the clauses `reads` and
+-- `writes` pass on what std told.
+use Rattle.std.specs.Prelude.{ℕ, List, Option, None}
+use Rattle.bes_io.specs.declared.standard.StdSource.{StdSource}
+use Rattle.bes_io.specs.declared.standard.StdSink.{StdSink}
+use Rattle.bes_io.specs.declared.standard.StdFiles.{StdFiles}
+
+-- how often the source has failed
+abbrev pub source_faults : {R : Type 0} → StdSource R → ℕ
+source_faults source = source.faults
+
+-- how often the sink has failed
+abbrev pub sink_faults : {W : Type 0} → StdSink W → ℕ
+sink_faults sink = sink.faults
+
+-- the names whose reads failed, in order
+abbrev pub failed_names : {R : Type 0} → StdFiles R → List (List ℕ)
+failed_names files = files.failed.items
+
+-- the file system tells nothing of what its files hold
+abbrev pub told_contents : {R : Type 0} → StdFiles R → Option (List ℕ → Option (List ℕ))
+told_contents files = None
+
+-- what the source reads from
+abbrev pub reader_of : {R : Type 0} → StdSource R → R
+reader_of source = source.reader
+
+-- what the sink writes to
+abbrev pub writer_of : {W : Type 0} → StdSink W → W
+writer_of sink = sink.writer
+
+-- the source tells nothing of what it has left
+abbrev pub told_left : {R : Type 0} → StdSource R → Option (List ℕ)
+told_left source = None
+
+-- the sink tells nothing of what it holds
+abbrev pub told_held : {W : Type 0} → StdSink W → Option (List ℕ)
+told_held sink = None
