@@ -1,0 +1,12 @@
+pub mod Tree
+pub mod Proper
+pub mod Parts
+pub mod Word
+pub mod Shortlex
+pub mod Operators
+pub mod Paths
+pub mod Satisfaction
+pub mod Verdict
+pub mod Equivalence
+pub mod Rows
+pub mod PathLaws
