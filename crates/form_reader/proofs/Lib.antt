@@ -1,0 +1,14 @@
+pub mod Propositional
+pub mod Complete
+pub mod Sound
+pub mod Plain
+pub mod Shapes
+pub mod Scans
+pub mod Laws
+pub mod Measures
+pub mod Turns
+pub mod Outcomes
+pub mod Pieces
+pub mod NamesLemmas
+pub mod NamesAfter
+pub mod Texts

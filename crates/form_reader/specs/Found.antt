@@ -1,0 +1,39 @@
+-- What the program found, as a piece of the text.
+use Rattle.std.specs.Prelude.{◌≡◌, ℕ, ◌+◌, ◌-◌, ◌≤◌, true, length, List, take, drop, slice_index}
+use Rattle.form_reader.specs.declared.dialect.Dialect.{Dialect}
+use Rattle.form_reader.specs.declared.spelling.Lexeme.{Lexeme}
+use Rattle.form_reader.specs.declared.spelling.Lexeme.TheVariants as lexemes
+use Rattle.form_reader.specs.declared.spelling.Found.{Found}
+use Rattle.form_reader.specs.Words.{begins_word, is_name}
+use Rattle.form_reader.specs.Spelling as spelling
+use Rattle.form_reader.specs.Spelling.{piece_at}
+
+-- the lexeme of the bytes
+abbrev pub lexeme_of : Lexeme → List ℕ → spelling.Lexeme
+lexeme_of (lexemes.Sign t) w = spelling.Sign t
+lexeme_of lexemes.Word w = spelling.Word w
+lexeme_of lexemes.Bad w = spelling.Bad
+
+-- the lexeme in its text
+abbrev pub lexeme_in : Found → List ℕ → spelling.Lexeme
+lexeme_in f text = lexeme_of f.lexeme (take (f.to - f.from) (drop f.from text))
+
+-- a word is a name
+abbrev pub IsNamed : spelling.Lexeme → Type 0
+IsNamed (spelling.Word w) = is_name w ≡ true
+IsNamed l = Unit {0}
+
+-- its bytes are bytes of the text, and a name if it is a word
+abbrev pub IsWithin : Found → List ℕ → Type 0
+IsWithin f text = (f.from ≤ f.to) × (f.to ≤ length text) × IsNamed (lexeme_in f text)
+
+-- the lexeme with its place
+abbrev pub lexeme_at : Found → List ℕ → ℕ × spelling.Lexeme
+lexeme_at f text = (f.from + 1, lexeme_in f text)
+
+-- it is the piece at the place
+pub record IsPieceAt (d : Dialect) (f : Found) (text : List ℕ) (at : ℕ) : Type 0 where
+  pub from : f.from ≡ at
+  pub to : f.to ≡ at + (piece_at d (drop at text)).size
+  pub lexeme : lexeme_of f.lexeme (take (f.to - f.from) (drop f.from text)) ≡ (piece_at d (drop at text)).lexeme
+  pub is_word : f.is_word ≡ begins_word (slice_index (drop at text) 0)

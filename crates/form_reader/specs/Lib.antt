@@ -1,0 +1,13 @@
+pub mod Words
+pub mod Names
+pub mod Grammar
+pub mod Waiting
+pub mod Admitted
+pub mod Spelling
+pub mod Faults
+pub mod Reading
+pub mod Machine
+pub mod Outcome
+pub mod Blames
+pub mod Found
+pub mod Stack

@@ -1,0 +1,28 @@
+//! Formulas of LTLf and LDLf read from text, and the names in them.
+//!
+//! `specs/Grammar.antt` says which tokens are the text of which formula, `specs/Spelling.antt` how
+//! bytes are cut into tokens, and `specs/Faults.antt` where a text is refused and why. One grammar
+//! serves both dialects, which differ in their tokens. The code keeps a stack and never recurses.
+#![tactic(auto)]
+
+mod building;
+mod dialect;
+mod fault;
+mod item;
+mod name_fault;
+mod names;
+mod operand;
+mod reading;
+mod spelling;
+mod step;
+#[cfg(test)]
+mod tests;
+mod token;
+mod word;
+
+pub use dialect::Dialect;
+pub use fault::FormFault;
+pub use name_fault::NameFault;
+pub use names::Names;
+pub use reading::read_form;
+pub use word::{begins_word, goes_on, is_blank, word_length};
