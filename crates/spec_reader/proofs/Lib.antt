@@ -1,0 +1,5 @@
+mod LetterLemmas
+pub mod EventLemmas
+mod Outcome
+mod Pieces
+mod Steps
