@@ -1,0 +1,4 @@
+pub mod Columns
+pub mod ColumnsOf
+pub mod Ends
+pub mod Kept

@@ -1,0 +1,78 @@
+ghost use Rattle.std.specs.Prelude.{◌≡◌, IfOk, length};
+ghost use Rattle.trace_meaning.specs.Leads as spec;
+
+use crate::column::{change, combine, copy};
+use crate::node::Lead;
+use crate::operator::{Binary, Unary};
+use bes_io::Memory;
+
+/// Where a path leads from each position of a block.
+#[derive(Drop)]
+pub struct Leads {
+    pub ahead: Vec<bool>,
+    pub stays: Vec<bool>,
+    ghost whole: { length stays.items ≡ length ahead.items },
+}
+
+impl Leads {
+    /// Leaves in `good` whether the path leads to a good position.
+    pub fn through(&self, good: &mut Vec<bool>)
+        requires { length self.now.ahead.items ≡ length good.old.items }
+        ensures through { good.new.items ≡
+            spec.through self.now.ahead.items self.now.stays.items good.old.items }
+        ensures whole { length good.new.items ≡ length good.old.items }
+    {
+        combine(Binary::And, good, &self.stays, false);
+        combine(Binary::Or, good, &self.ahead, false);
+    }
+
+    /// Whether this path leads to a good position from the next position; `next` says where it
+    /// leads from the position after the block, and then where it leads from the first.
+    pub fn rest(&self, next: &mut Lead, later: &[bool]) -> Result<Vec<bool>, Memory>
+        requires { length self.now.ahead.items ≡ length later.now }
+        ensures rest { IfOk result (λ made. made.items ≡
+            spec.rest_of next.old self.now.ahead.items self.now.stays.items later.now) }
+        ensures first { IfOk result (λ _. next.new ≡
+            spec.first_lead next.old self.now.ahead.items self.now.stays.items) }
+        ensures whole { IfOk result (λ made. length made.items ≡ length later.now) }
+    {
+        let mut ahead = copy(&self.ahead)?;
+        let mut stays = copy(&self.stays)?;
+        next.ahead = change(Unary::Next, &mut ahead, next.ahead);
+        next.stays = change(Unary::Next, &mut stays, next.stays);
+        combine(Binary::And, &mut stays, later, false);
+        combine(Binary::Or, &mut stays, &ahead, false);
+        Ok(stays)
+    }
+
+    /// Where a choice of the two leads.
+    pub fn or(self, other: Leads) -> Leads
+        requires { length other.ahead.items ≡ length self.ahead.items }
+        ensures ahead { result.ahead.items ≡ spec.one_of self.ahead.items other.ahead.items }
+        ensures stays { result.stays.items ≡ spec.one_of self.stays.items other.stays.items }
+        ensures whole { length result.ahead.items ≡ length self.ahead.items }
+    {
+        let mut ahead = self.ahead;
+        let mut stays = self.stays;
+        combine(Binary::Or, &mut ahead, &other.ahead, false);
+        combine(Binary::Or, &mut stays, &other.stays, false);
+        Leads { ahead, stays }
+    }
+
+    /// Where the one leads and then the other.
+    pub fn and_then(self, other: Leads) -> Leads
+        requires { length other.ahead.items ≡ length self.ahead.items }
+        ensures ahead { result.ahead.items ≡
+            spec.one_of self.ahead.items (spec.both other.ahead.items self.stays.items) }
+        ensures stays { result.stays.items ≡ spec.both self.stays.items other.stays.items }
+        ensures whole { length result.ahead.items ≡ length self.ahead.items }
+    {
+        let mut ahead = self.ahead;
+        let mut stays = self.stays;
+        let mut then = other.ahead;
+        combine(Binary::And, &mut then, &stays, false);
+        combine(Binary::Or, &mut ahead, &then, false);
+        combine(Binary::And, &mut stays, &other.stays, false);
+        Leads { ahead, stays }
+    }
+}
