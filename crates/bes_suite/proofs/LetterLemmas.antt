@@ -1,0 +1,86 @@
+-- What a call of `next_letter` says, by what the reader of lines found.
+use Rattle.std.proofs.Common.{◌≡◌, ℕ, ◌+◌, ◌∷◌, List, [], sym, refl, ◌∙◌, ap, subst, Option, Some, None, Result, Ok, Err}
+use Rattle.bes_io.specs.Reader.{Reader, input, HasReadCause}
+use Rattle.bes_io.specs.Lines.{Stop, at_end, at_fault, FoundLine, NextLine}
+use Rattle.bes_io.specs.declared.lines.Found.{Found}
+use Rattle.bes_io.specs.declared.lines.Found.TheVariants.{Line, End}
+use Rattle.bes_io.specs.declared.lines.LineFault.{LineFault}
+use Rattle.bes_io.specs.declared.lines.LineFault.TheVariants.{ReadFault, LineTooLong, InputTooLong}
+use Rattle.spec_reader.specs.Event.{IsEventOf, event_fault}
+use Rattle.spec_reader.specs.declared.events.EventFault.{EventFault}
+use Rattle.spec_reader.specs.declared.events.Mode.TheVariants.{Ignore}
+use Rattle.bes_suite.specs.declared.endings.Ending.{Ending}
+use Rattle.bes_suite.specs.declared.endings.Ending.TheVariants.{Refused}
+use Rattle.bes_suite.specs.declared.endings.Refusal.TheVariants.{Event}
+use Rattle.bes_suite.specs.Traces.{trace_refusal, line_refusal}
+use Rattle.bes_suite.specs.Letters.{stopped, FoundLetter, FoundEnd, IsRefusedAt, NextLetter, HasTraceCause}
+use Rattle.bes_io.proofs.LinesLemmas.{some-remain}
+
+module _ (names : List (List ℕ)) (n : ℕ) (old new : Reader) (bytes : List ℕ) (left : Option (List ℕ)) where
+  found : (text : List ℕ) (letter : ℕ) → FoundLine old bytes new left → new.line ≡ Some text → IsEventOf names Ignore text letter
+      → FoundLetter names old bytes letter new left
+  found text letter f is event =
+      let same : text ≡ f.text = cc in
+      record {
+        later = f.later;
+        text = f.text;
+        rest = f.rest;
+        event = subst (λ t. IsEventOf names Ignore t letter) same event;
+        others = f.others;
+        last = f.last;
+      }
+
+  refused : (text : List ℕ) (fault : EventFault) → FoundLine old bytes new left → new.line ≡ Some text → event_fault names Ignore text ≡ Some fault
+      → IsRefusedAt names n old bytes (Event n fault)
+  refused text fault f is event =
+      let same : text ≡ f.text = cc in
+      let r = some-remain new f.later in
+      let e : event_fault names Ignore f.text ≡ Some fault = ap (event_fault names Ignore) (sym same) ∙ event in
+      record {
+        lines = f.text ∷ r.lines;
+        stop = r.stop;
+        remain = f.others r.lines r.stop r.remain;
+        first = ap (λ o. line_refusal n o (trace_refusal names (n + 1) r.lines r.stop)) e;
+      }
+
+module _ (names : List (List ℕ)) (n : ℕ) (old new : Reader) (left later : Option (List ℕ)) (r : Result Found LineFault)
+    (next : (bytes : List ℕ) → input old left ≡ Some bytes → NextLine old bytes r new later) where
+  at : (bytes : List ℕ) → input old left ≡ Some bytes → (q : Result Found LineFault) → r ≡ q → NextLine old bytes q new later
+  at bytes told q e = subst (λ q. NextLine old bytes q new later) e (next bytes told)
+
+  pub letter-found : r ≡ Ok Line → (text : List ℕ) (letter : ℕ) → new.line ≡ Some text → IsEventOf names Ignore text letter
+      → (bytes : List ℕ) → input old left ≡ Some bytes → NextLetter names n old bytes (Ok (Some letter)) new later
+  letter-found e text letter is event bytes told = found names n old new bytes later text letter (at bytes told (Ok Line) e) is event
+
+  pub letter-refused : r ≡ Ok Line → (text : List ℕ) (fault : EventFault) → new.line ≡ Some text → event_fault names Ignore text ≡ Some fault
+      → (bytes : List ℕ) → input old left ≡ Some bytes → NextLetter names n old bytes (Err (Refused (Event n fault))) new later
+  letter-refused e text fault is event bytes told = refused names n old new bytes later text fault (at bytes told (Ok Line) e) is event
+
+  pub end-found : r ≡ Ok End → (bytes : List ℕ) → input old left ≡ Some bytes → NextLetter names n old bytes (Ok None) new later
+  end-found e bytes told = let f = at bytes told (Ok End) e in record { rest = f.1; ended = f.0; why = f.2 }
+
+  stops : (fault : LineFault) → r ≡ Err fault → (bytes : List ℕ) → input old left ≡ Some bytes → NextLetter names n old bytes (Err (stopped n fault)) new later
+  stops ReadFault e bytes told = tt
+  stops LineTooLong e bytes told = let f = at bytes told (Err LineTooLong) e in record { lines = []; stop = at_fault LineTooLong; remain = f.0; first = refl }
+  stops InputTooLong e bytes told = let f = at bytes told (Err InputTooLong) e in record { lines = []; stop = at_fault InputTooLong; remain = f.0; first = refl }
+
+  pub letter-stopped : (fault : LineFault) → r ≡ Err fault → (ending : Ending) → ending ≡ stopped n fault
+      → (bytes : List ℕ) → input old left ≡ Some bytes → NextLetter names n old bytes (Err ending) new later
+  letter-stopped fault e ending is bytes told = subst (λ q. NextLetter names n old bytes (Err q) new later) (sym is) (stops fault e bytes told)
+
+-- the cause of an ending is that of the reader's answer
+stop-cause : (before now n : ℕ) (fault : LineFault) → HasReadCause before now (Err fault) → HasTraceCause {T = Option ℕ} before now (Err (stopped n fault))
+stop-cause before now n ReadFault h = h.1
+stop-cause before now n LineTooLong h = h
+stop-cause before now n InputTooLong h = h
+
+pub stopped-cause : (before now n : ℕ) (r : Result Found LineFault) → HasReadCause before now r → (fault : LineFault) → r ≡ Err fault
+    → (ending : Ending) → ending ≡ stopped n fault → HasTraceCause {T = Option ℕ} before now (Err ending)
+stopped-cause before now n r h fault e ending is =
+    subst (λ q. HasTraceCause {T = Option ℕ} before now (Err q)) (sym is) (stop-cause before now n fault (subst (HasReadCause before now) e h))
+
+pub line-cause : (before now : ℕ) (r : Result Found LineFault) → HasReadCause before now r → r ≡ Ok Line → now ≡ before
+line-cause before now r h e = subst (HasReadCause before now) e h
+
+pub end-cause : (before now : ℕ) (r : Result Found LineFault) → HasReadCause before now r → r ≡ Ok End → now ≡ before
+end-cause before now r h e = subst (HasReadCause before now) e h

@@ -1,0 +1,10 @@
+pub mod Commands
+pub mod Endings
+pub mod Replies
+pub mod Letters
+pub mod Traces
+pub mod Judge
+pub mod Answers
+pub mod Worlds
+pub mod Runs
+pub mod Results

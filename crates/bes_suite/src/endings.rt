@@ -1,0 +1,95 @@
+//! What a run ends with.
+ghost use Rattle.std.specs.Prelude.{◌≡◌, []};
+ghost use Rattle.bes_suite.specs.Endings.{status_of, refusal_status, message_of};
+ghost use Rattle.bes_suite.specs.Runs.{Finishes};
+
+use crate::messages::ending_message;
+use bes_io::Sink;
+use form_reader::FormFault;
+use spec_reader::EventFault;
+
+/// What was refused. Lines and places are counted from 1, places in bytes.
+#[derive(Clone, Copy, Debug, PartialEq, Eq)]
+pub enum Refusal {
+    /// The words are none of the listed forms.
+    Usage,
+    /// The formula, at this place or as unfinished.
+    Formula(FormFault),
+    /// The input has no line.
+    NoEvent,
+    /// This line of the input is no event.
+    Event { line: u64, fault: EventFault },
+    /// This line has more than 4,096 bytes.
+    LineTooLong { line: u64 },
+    /// In this line the input passes its limit.
+    InputTooLong { line: u64 },
+}
+
+/// How a run ends, before its message is put.
+#[derive(Clone, Copy, Debug, PartialEq, Eq)]
+pub enum Ending {
+    /// The answer is positive.
+    Positive,
+    /// The answer is negative.
+    Negative,
+    /// Something was refused.
+    Refused(Refusal),
+    /// The outside failed.
+    OutsideFault,
+    /// There was no memory.
+    NoMemory,
+}
+
+/// The status of a run: 0 and 1 for an answer, 2 to 6 for a refusal, 7 for a fault of the outside,
+/// 8 for want of memory.
+#[derive(Clone, Copy, Debug, PartialEq, Eq)]
+pub struct Status {
+    pub number: u8,
+}
+
+fn refusal_number(refusal: Refusal) -> u8
+    ensures { result ≡ refusal_status refusal }
+{
+    match refusal {
+        Refusal::Usage => 2,
+        Refusal::Formula(_) => 3,
+        Refusal::NoEvent => 4,
+        Refusal::Event { .. } => 4,
+        Refusal::LineTooLong { .. } => 4,
+        Refusal::InputTooLong { .. } => 4,
+    }
+}
+
+fn number(ending: Ending) -> u8
+    ensures { result ≡ status_of ending }
+{
+    match ending {
+        Ending::Positive => 0,
+        Ending::Negative => 1,
+        Ending::Refused(refusal) => refusal_number(refusal),
+        Ending::OutsideFault => 7,
+        Ending::NoMemory => 8,
+    }
+}
+
+// Puts the message of the ending, if it has one, and answers the status.
+pub fn finish<E: Sink>(ending: Ending, err: &mut E) -> Status
+    ensures finishes { Finishes ending (E.held err.old) (E.faults err.old) (E.held err.new) (E.faults err.new) result.number }
+    ensures quiet { message_of ending ≡ [] → err.new ≡ err.old }
+{
+    let text = ending_message(ending);
+    if text.is_empty() {
+        return Status {
+            number: number(ending),
+        };
+    }
+    match err.put(text.bytes()) {
+        Ok(()) => Status {
+            number: number(ending),
+        },
+        Err(_) => match ending {
+            Ending::NoMemory => Status { number: 8 },
+            _ => Status { number: 7 },
+        },
+    }
+}

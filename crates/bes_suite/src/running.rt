@@ -1,0 +1,108 @@
+//! The top call.
+ghost use Rattle.std.specs.Prelude.{◌≡◌, ◌≢◌, ℕ, ◌<◌, ◌⊎◌, List, [], Some, None, IsTrue, false};
+ghost use Rattle.bes_suite.specs.Replies.{Reply};
+ghost use Rattle.bes_suite.specs.Commands.{command_of, reads_input, file_of};
+ghost use Rattle.bes_suite.specs.Results.{IsAnswered, Partial, HasFaultCause, HasMessageCause, CountsStand, LeavesMessage, IsUnread};
+ghost use Rattle.bes_suite.specs.Answers.{AnswersWith, MayRead, Contents};
+ghost use Rattle.bes_suite.specs.Runs.{Finishes};
+ghost use Rattle.bes_suite.specs.Worlds.{world, needs_of, Tells, Gains, IfNeeded, Performs};
+
+use crate::commands::{Command, find_command};
+use crate::endings::{Ending, Refusal, Status, finish};
+use crate::judging::judge_formula;
+use bes_io::{Files, Sink, Source, Word};
+use std::alloc::Global;
+
+// Does what the words ask for, but for the message.
+fn perform<F: Files, S: Source, O: Sink>(
+    alloc: Global,
+    words: &[Word],
+    files: &mut F,
+    input: &mut S,
+    out: &mut O,
+) -> Ending
+    ensures performs { Performs (needs_of words.now) (AnswersWith words.now) (MayRead words.now)
+        (world (F.contents files.old) (F.failed files.old) (S.left input.old) (S.faults input.old) (O.held out.old) (O.faults out.old))
+        (world (F.contents files.new) (F.failed files.new) (S.left input.new) (S.faults input.new) (O.held out.new) (O.faults out.new)) result }
+    ensures usage { command_of words.now ≡ Command.Usage → result ≡ Ending.Refused Refusal.Usage }
+    ensures unread { ¬ MayRead words.now → input.new ≡ input.old }
+    ensures unopened { file_of (command_of words.now) words.now ≡ None → files.new ≡ files.old }
+{
+    match find_command(words) {
+        Command::Usage => Ending::Refused(Refusal::Usage),
+        Command::Judge(dialect) => judge_formula(alloc, dialect, words[2].bytes(), input, out),
+    }
+}
+
+/// Does all that the program does: what the words ask for, over these files, this input, and these places for the output
+/// and for messages. It answers the status, and stops at the first fault of the outside.
+pub fn run<F: Files, S: Source, O: Sink, E: Sink>(
+    alloc: Global,
+    words: &[Word],
+    files: &mut F,
+    input: &mut S,
+    out: &mut O,
+    err: &mut E,
+) -> Status
+    // Each status but 7 and 8 is that of what the words, the named file and the input ask for, with its output and its
+    // message. What they ask for is one thing, so each comes exactly where it is asked for.
+    ensures answers { (contents : Contents) (rest : List ℕ) →
+        Tells (needs_of words.now) (MayRead words.now) (world (F.contents files.old) (F.failed files.old) (S.left input.old) (S.faults input.old) (O.held out.old) (O.faults out.old)) contents rest →
+        IsAnswered (AnswersWith words.now contents rest)
+        (world (F.contents files.old) (F.failed files.old) (S.left input.old) (S.faults input.old) (O.held out.old) (O.faults out.old))
+        (world (F.contents files.new) (F.failed files.new) (S.left input.new) (S.faults input.new) (O.held out.new) (O.faults out.new))
+        (E.held err.old) (E.held err.new) result.number }
+    ensures one { (contents : Contents) (rest : List ℕ) (c d : Reply) → AnswersWith words.now contents rest c → AnswersWith words.now contents rest d → c ≡ d }
+
+    // Status 7 comes only where a count rose, and of the place for messages only where one was asked for.
+    ensures fault { HasFaultCause (needs_of words.now) (MayRead words.now)
+        (world (F.contents files.old) (F.failed files.old) (S.left input.old) (S.faults input.old) (O.held out.old) (O.faults out.old))
+        (world (F.contents files.new) (F.failed files.new) (S.left input.new) (S.faults input.new) (O.held out.new) (O.faults out.new))
+        (E.faults err.old) (E.faults err.new) result.number }
+    ensures unheard { (contents : Contents) (rest : List ℕ) →
+        Tells (needs_of words.now) (MayRead words.now) (world (F.contents files.old) (F.failed files.old) (S.left input.old) (S.faults input.old) (O.held out.old) (O.faults out.old)) contents rest →
+        HasMessageCause (needs_of words.now) (MayRead words.now) (AnswersWith words.now contents rest)
+        (world (F.contents files.old) (F.failed files.old) (S.left input.old) (S.faults input.old) (O.held out.old) (O.faults out.old))
+        (world (F.contents files.new) (F.failed files.new) (S.left input.new) (S.faults input.new) (O.held out.new) (O.faults out.new))
+        (E.faults err.old) (E.faults err.new) result.number }
+
+    // After 7 the output has gained a prefix of what was asked for, after 8 nothing, whether or not the outside tells.
+    ensures partly { (contents : Contents) (rest : List ℕ) →
+        Tells (needs_of words.now) (MayRead words.now) (world (F.contents files.old) (F.failed files.old) (S.left input.old) (S.faults input.old) (O.held out.old) (O.faults out.old)) contents rest →
+        Partial (AnswersWith words.now contents rest)
+        (world (F.contents files.old) (F.failed files.old) (S.left input.old) (S.faults input.old) (O.held out.old) (O.faults out.old))
+        (world (F.contents files.new) (F.failed files.new) (S.left input.new) (S.faults input.new) (O.held out.new) (O.faults out.new))
+        result.number }
+    ensures nothing { result.number ≡ 8 → O.held out.new ≡ O.held out.old }
+
+    // Where a count of the files, the input or the output rose the status is 7; where that of the place for messages
+    // rose it is 7 or 8.
+    ensures counts { CountsStand
+        (world (F.contents files.old) (F.failed files.old) (S.left input.old) (S.faults input.old) (O.held out.old) (O.faults out.old))
+        (world (F.contents files.new) (F.failed files.new) (S.left input.new) (S.faults input.new) (O.held out.new) (O.faults out.new))
+        result.number }
+    ensures messages { result.number ≢ 7 → result.number ≢ 8 → E.faults err.new ≡ E.faults err.old }
+
+    // The run ends in some way, whose status it answers and whose message it puts, whole but at a fault.
+    ensures ends { (ending : Ending) × Finishes ending (E.held err.old) (E.faults err.old) (E.held err.new) (E.faults err.new) result.number }
+
+    // After 7 and 8 the message of the status was put, or at a fault a prefix of one message; after an answer none was.
+    ensures message { LeavesMessage (E.held err.old) (E.held err.new) (E.faults err.old) (E.faults err.new) result.number }
+    ensures quiet { result.number < 2 → err.new ≡ err.old }
+
+    // Wrong words are told whatever memory there is.
+    ensures usage { command_of words.now ≡ Command.Usage → (result.number ≡ 2) ⊎ (result.number ≡ 7) }
+
+    // The names that failed gain the named file at most, and the files stay where the words don't ask for one. The input
+    // stays where its formula or file isn't accepted, which is so after a refusal of the words, a formula or a limit.
+    ensures gains { Gains (file_of (command_of words.now) words.now) (F.failed files.old) (F.failed files.new) }
+    ensures unopened { file_of (command_of words.now) words.now ≡ None → files.new ≡ files.old }
+    ensures early { IsUnread result.number → ¬ MayRead words.now }
+    ensures unread { ¬ MayRead words.now → input.new ≡ input.old }
+
+    // After an answer an input that is read was read to its end.
+    ensures whole { IsTrue (reads_input (command_of words.now)) → result.number < 2 → (rest : List ℕ) → S.left input.old ≡ Some rest → S.left input.new ≡ Some [] }
+{
+    let ending = perform(alloc, words, files, input, out);
+    finish(ending, err)
+}

@@ -1,0 +1,71 @@
+//! The trace that the lines of the input give.
+ghost use Rattle.std.specs.Prelude.{◌≡◌, ℕ, ◌<◌, List, Option, Some, IsSome, IfOk, IfErr};
+ghost use Rattle.bes_io.specs.Reader.{input as input_of, allowed};
+ghost use Rattle.bes_suite.specs.Endings.{IsBeforeInput};
+ghost use Rattle.bes_suite.specs.Letters.{stopped, NextLetter, GivesTrace, HasTraceCause};
+
+use crate::endings::{Ending, Refusal};
+use bes_io::{Found, Letters, LineFault, LineReader, Source};
+use form_reader::Names;
+use spec_reader::{Mode, read_event};
+use std::alloc::Global;
+
+// The most bytes of an input that is judged.
+const MOST_INPUT: u64 = 1 << 26;
+
+// How a run ends where reading lines fails.
+fn stop(fault: LineFault, line: u64) -> Ending
+    ensures ending { result ≡ stopped line fault }
+    ensures late { ¬ IsBeforeInput result }
+{
+    match fault {
+        LineFault::ReadFault => Ending::OutsideFault,
+        LineFault::LineTooLong => Ending::Refused(Refusal::LineTooLong { line }),
+        LineFault::InputTooLong => Ending::Refused(Refusal::InputTooLong { line }),
+    }
+}
+
+// The letter of the next line, which has this number; none at the end of the input.
+fn next_letter<S: Source>(
+    reader: &mut LineReader,
+    names: &Names,
+    line: u64,
+    input: &mut S,
+) -> Result<Option<u64>, Ending>
+    ensures tells { (bytes : List ℕ) → input_of reader.old (S.left input.old) ≡ Some bytes
+        → NextLetter names.now.names line reader.old bytes result reader.new (S.left input.new) }
+    ensures cause { HasTraceCause (S.faults input.old) (S.faults input.new) result }
+    ensures progress { IfOk result (λ found. IsSome found → allowed reader.new < allowed reader.old) }
+    ensures late { IfErr result (λ ending. ¬ IsBeforeInput ending) }
+{
+    match reader.next(input) {
+        Ok(Found::Line) => match read_event(reader.line(), names, Mode::Ignore) {
+            Ok(letter) => Ok(Some(letter)),
+            Err(fault) => Err(Ending::Refused(Refusal::Event { line, fault })),
+        },
+        Ok(Found::End) => Ok(None),
+        Err(fault) => Err(stop(fault, line)),
+    }
+}
+
+// The letters of the input's lines.
+pub fn read_trace<S: Source>(alloc: Global, names: &Names, input: &mut S) -> Result<Letters, Ending>
+    ensures trace { (rest : List ℕ) → S.left input.old ≡ Some rest
+        → GivesTrace names.now.names rest result (S.left input.new) }
+    ensures cause { HasTraceCause (S.faults input.old) (S.faults input.new) result }
+    ensures late { IfErr result (λ ending. ¬ IsBeforeInput ending) }
+{
+    let mut letters = Letters::new(alloc);
+    let mut reader = LineReader::new(MOST_INPUT);
+    loop {
+        let line = letters.len() as u64 + 1;
+        match next_letter(&mut reader, names, line, input) {
+            Ok(Some(letter)) => match letters.push(letter) {
+                Ok(()) => {}
+                Err(_) => return Err(Ending::NoMemory),
+            },
+            Ok(None) => return Ok(letters),
+            Err(ending) => return Err(ending),
+        }
+    }
+}
