@@ -86,49 +86,49 @@ fn judgements<'a>() -> [Case<'a>; 13] {
         row(&["judge", "ltlf", "X true"], b"\n", b"false\n", b"", 1),
         row(&["judge", "ltlf", "N false"], b"\n", b"true\n", b"", 0),
         row(&["judge", "ltlf", "X a"], b"\r\na", b"true\n", b"", 0),
-        case(
+        row(
             &["judge", "ltlf", "F a"],
             b"",
             b"",
             b"bes: input: no event\n",
             4,
         ),
-        case(
+        row(
             &["judge", "ltlf", "F a"],
             b"a\n#\n",
             b"",
             b"bes: input line 2: bad byte at 1\n",
             4,
         ),
-        case(
+        row(
             &["judge", "ltlf", "a &"],
             b"",
             b"",
             b"bes: formula: unfinished\n",
             3,
         ),
-        case(
+        row(
             &["judge", "ltlf", "a # b"],
             b"",
             b"",
             b"bes: formula: bad byte at 3\n",
             3,
         ),
-        case(
+        row(
             &["judge", "ldlf", "<(true;true)*> end"],
             b"\n\n",
             b"true\n",
             b"",
             0,
         ),
-        case(
+        row(
             &["judge", "ldlf", "<(true;true)*> end"],
             b"\n\n\n",
             b"false\n",
             b"",
             1,
         ),
-        case(
+        row(
             &["judge", "ldlf", "<(a? + true?)*> end"],
             b"a\n",
             b"false\n",
@@ -176,117 +176,50 @@ fn failing<'a>(case: Case<'a>, faults: Faults<'a>, output: &'a [u8], message: &'
     }
 }
 
+fn at_input<'a>(fails: &'a [u64]) -> Faults<'a> {
+    Faults {
+        input: fails,
+        ..NO_FAULTS
+    }
+}
+
+fn at_out<'a>(fails: &'a [u64], partly: usize) -> Faults<'a> {
+    Faults {
+        out: fails,
+        partly,
+        ..NO_FAULTS
+    }
+}
+
+fn at_err<'a>(fails: &'a [u64], partly: usize) -> Faults<'a> {
+    Faults {
+        err: fails,
+        partly,
+        ..NO_FAULTS
+    }
+}
+
+const UNFINISHED: &[u8] = b"bes: formula: unfinished\n";
+
 // Each call of an answered run, and of two refused ones, failing in turn; a second put is never made.
 fn tries<'a>() -> [Try<'a>; 10] {
     let fault: &[u8] = b"bes: outside fault\n";
     let answered = row(&["judge", "ltlf", "F a"], b"b\na\n", b"true\n", b"", 0);
-    let refused = case(
-        &["judge", "ltlf", "a &"],
-        b"",
-        b"",
-        b"bes: formula: unfinished\n",
-        3,
-    );
+    let refused = row(&["judge", "ltlf", "a &"], b"", b"", UNFINISHED, 3);
     let wrong = row(&["judge"], b"", b"", USAGE, 2);
+    let done = failing(answered, at_out(&[2], 0), b"true\n", b"");
+    let told = failing(refused, at_err(&[2], 0), b"", UNFINISHED);
     [
-        failing(
-            answered,
-            Faults {
-                input: &[1],
-                ..NO_FAULTS
-            },
-            b"",
-            fault,
-        ),
-        failing(
-            answered,
-            Faults {
-                input: &[2],
-                ..NO_FAULTS
-            },
-            b"",
-            fault,
-        ),
-        failing(
-            answered,
-            Faults {
-                input: &[3],
-                ..NO_FAULTS
-            },
-            b"",
-            fault,
-        ),
-        failing(
-            answered,
-            Faults {
-                out: &[1],
-                ..NO_FAULTS
-            },
-            b"",
-            fault,
-        ),
-        failing(
-            answered,
-            Faults {
-                out: &[1],
-                partly: 3,
-                ..NO_FAULTS
-            },
-            b"tru",
-            fault,
-        ),
-        failing(
-            refused,
-            Faults {
-                err: &[1],
-                ..NO_FAULTS
-            },
-            b"",
-            b"",
-        ),
-        failing(
-            refused,
-            Faults {
-                err: &[1],
-                partly: 3,
-                ..NO_FAULTS
-            },
-            b"",
-            b"bes",
-        ),
-        failing(
-            wrong,
-            Faults {
-                err: &[1],
-                ..NO_FAULTS
-            },
-            b"",
-            b"",
-        ),
-        Try {
-            status: 0,
-            ..failing(
-                answered,
-                Faults {
-                    out: &[2],
-                    ..NO_FAULTS
-                },
-                b"true\n",
-                b"",
-            )
-        },
-        Try {
-            status: 3,
-            ..failing(
-                refused,
-                Faults {
-                    err: &[2],
-                    ..NO_FAULTS
-                },
-                b"",
-                b"bes: formula: unfinished\n",
-            )
-        },
+        failing(answered, at_input(&[1]), b"", fault),
+        failing(answered, at_input(&[2]), b"", fault),
+        failing(answered, at_input(&[3]), b"", fault),
+        failing(answered, at_out(&[1], 0), b"", fault),
+        failing(answered, at_out(&[1], 3), b"tru", fault),
+        failing(refused, at_err(&[1], 0), b"", b""),
+        failing(refused, at_err(&[1], 3), b"", b"bes"),
+        failing(wrong, at_err(&[1], 0), b"", b""),
+        Try { status: 0, ..done },
+        Try { status: 3, ..told },
     ]
 }
 
