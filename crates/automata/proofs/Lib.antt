@@ -1,0 +1,11 @@
+pub mod Lasts
+pub mod Walks
+pub mod Words
+pub mod Order
+pub mod Pigeon
+pub mod Letters
+pub mod SearchLemmas
+pub mod FindingLemmas
+pub mod FoundLists
+pub mod RenumberLemmas
+pub mod ListingLemmas

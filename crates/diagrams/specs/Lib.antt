@@ -1,0 +1,15 @@
+pub mod Tree
+pub mod Eval
+pub mod Live
+pub mod Branch
+pub mod Shown
+pub mod Inside
+pub mod Kept
+pub mod Work
+pub mod Parts
+pub mod Turned
+pub mod Folded
+pub mod Picked
+pub mod Composed
+pub mod Terminals
+pub mod Cubes

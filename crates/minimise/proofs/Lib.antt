@@ -1,0 +1,11 @@
+pub mod BlockLemmas
+pub mod PartitionLemmas
+pub mod RoundLemmas
+pub mod QuotientLemmas
+pub mod RowLemmas
+pub mod RefineLemmas
+pub mod Counts
+pub mod Once
+pub mod Smallest
+pub mod Unique
+pub mod TestLemmas

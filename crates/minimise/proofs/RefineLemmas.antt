@@ -1,0 +1,305 @@
+-- Rounds of refinement over a growing store, and what the last one gives.
+use Rattle.std.proofs.Common.{◌≡◌, ◌≢◌, ◌<◌, ◌≤◌, ◌+◌, ◌++◌, ◌==◌, ℕ, zero, suc, List, [], ◌∷◌, Option, Some, None, refl, sym, ◌∙◌, ap, subst, arith, inl, inr, length, length-append, map, replicate, Result, Ok, Err}
+use Rattle.std.specs.Prelude.{slice_get, slice_index, slice_index_or, IfOk}
+use Rattle.std.proofs.lemmas.Bool.{cases_eq}
+use Rattle.diagrams.specs.declared.top.Id.{Id}
+use Rattle.diagrams.specs.Eval.{Diagrams, eval, letter_truth}
+use Rattle.diagrams.specs.Live.{Keeps, Means}
+use Rattle.diagrams.proofs.Meaning.{eval-lasts, live_lasts, Keeps_trans}
+use Rattle.automata.specs.Table.{Table, size_of, mark_of, row_of, IsRow, Fits, next_of, moves_of}
+use Rattle.automata.proofs.Lasts.{fits_lasts, next_of-lasts}
+use Rattle.minimise.specs.declared.blocks.Key.{Key}
+use Rattle.minimise.specs.Blocks.{blocks_among, IsInOrder, IsPartition}
+use Rattle.minimise.specs.Rounds.{IsDivided, IsRelabelled, AreKeys, IsRefined}
+use Rattle.minimise.proofs.BlockLemmas.{within, member, finer_has_more}
+use Rattle.minimise.proofs.PartitionLemmas.{get-push_before, get-push_at, get-within}
+use Rattle.minimise.proofs.RoundLemmas.{IsRound, round_divides, round_is_finer, one_block_divides}
+use Rattle.minimise.proofs.RowLemmas.{AreRelabelled, GoesByRows, rows_make_round}
+use Rattle.minimise.proofs.QuotientLemmas.{IsQuotient, divided_is_least, quotient_marks}
+use Rattle.automata.proofs.FindingLemmas.{place_cases}
+use Rattle.automata.proofs.RenumberLemmas.{fits_closed, same_marks}
+use Rattle.automata.specs.Moves.{HaveSameMarks}
+use Rattle.automata.specs.Numbering.{IsNumbered}
+use Rattle.automata.specs.Renamed.{IsPartOf}
+use Rattle.minimise.specs.Least.{IsLeast}
+
+abbrev id_in : Option Key → Id
+id_in None = record { 0 = 0 }
+id_in (Some k) = k.row
+
+abbrev mark_in : Option Key → ℕ
+mark_in None = 0
+mark_in (Some k) = k.mark
+
+-- what the row was in the store before, it is now
+row-lasts : (s n : Diagrams) (t : Table) → Keeps s n → Fits s t → (at : ℕ) → at < size_of t → (a : ℕ → _) → eval n (row_of t at) a ≡ eval s (row_of t at) a
+row-lasts s n t k f at h a = eval-lasts s n k.was k.now k.extends (row_of t at) (f at h).live a
+
+round_lasts : (s n : Diagrams) (t : Table) (old new : ℕ → ℕ) → Keeps s n → Fits s t → IsRound n.props (moves_of n t) old new → IsRound s.props (moves_of s t) old new
+round_lasts s n t old new k f r = record {
+  mark = r.mark;
+  next = λ i j h l e a o.
+      ap old (sym (next_of-lasts s n k t f i a h)) ∙ r.next i j h l e a (rw (k.extends.props) o) ∙ ap old (next_of-lasts s n k t f j a l);
+  apart = λ i j h l e. elim (r.apart i j h l e) [
+    | inl q ↦ inl q
+    | inr q ↦ inr (q.0, rw k.extends.props at q.1, λ z. q.2 (ap old (next_of-lasts s n k t f i q.0 h) ∙ z ∙ ap old (sym (next_of-lasts s n k t f j q.0 l))))
+  ];
+}
+
+module _ (s n : Diagrams) (t : Table) (old : List ℕ) (keys : List Key) (new : List ℕ) (kinds : List Key) (k : Keeps s n) (f : Fits s t)
+    (a : AreKeys s n t old keys (size_of t)) (p : IsPartition keys new kinds (size_of t)) where
+  ids : ℕ → Id
+  ids i = id_in (slice_get keys i)
+
+  ids-is : (i : ℕ) (h : i < size_of t) → ids i ≡ (a.key i h).0
+  unfolding ids
+  ids-is i h = ap id_in (a.key i h).1
+
+  keys-same : (i j : ℕ) → i < size_of t → j < size_of t → slice_index new i ≡ slice_index new j → slice_get keys i ≡ slice_get keys j
+  keys-same i j h l e = sym (p.key i h) ∙ ap (slice_get kinds) e ∙ p.key j l
+
+  relabelled : AreRelabelled n t (slice_index old) ids
+  unfolding ids
+  relabelled i h =
+      let m = (a.key i h).2 in
+      rw (ids-is i h) (record {
+        live = m.live;
+        value = λ b. m.value b ∙ ap (slice_index old) (sym (row-lasts s n t k f i h b));
+      })
+
+  goes : GoesByRows t ids (slice_index new)
+  unfolding ids
+  goes = record {
+    same = λ i j h l e.
+        let q = keys-same i j h l e in
+        (sym (ap mark_in (a.key i h).1) ∙ ap mark_in q ∙ ap mark_in (a.key j l).1, ap id_in q);
+    apart = λ i j h l e q.
+        let x = (a.key i h).1 in
+        let y = (a.key j l).1 in
+        let z : (a.key i h).0 ≡ (a.key j l).0 = sym (ids-is i h) ∙ q ∙ ids-is j l in
+        let one : slice_get keys j ≡ Some (record { mark = mark_of t i; row = (a.key i h).0 }) =
+        y ∙ (λ d. Some (record { mark = sym e d; row = sym z d })) in
+        p.once (slice_index new i) (slice_index new j) _ (p.key i h ∙ x) (p.key j l ∙ one);
+  }
+
+  pub round_made : IsRound s.props (moves_of s t) (slice_index old) (slice_index new)
+  round_made = round_lasts s n t (slice_index old) (slice_index new) k f (rows_make_round n t (slice_index old) (slice_index new) ids k.now (fits_lasts s n k t f) relabelled goes)
+
+-- keys over the store before are keys over the first store
+keys_back : (s m n : Diagrams) (t : Table) (blocks : List ℕ) (keys : List Key) (count : ℕ) → count ≤ size_of t → Keeps s m → Fits s t → AreKeys m n t blocks keys count → AreKeys s n t blocks keys count
+keys_back s m n t blocks keys count few k f a = record {
+  size = a.size;
+  key = λ i h.
+      let x = a.key i h in
+      (x.0, x.1, record { live = x.2.live; value = λ b. x.2.value b ∙ ap (slice_index blocks) (row-lasts s m t k f i (omega (arith, h, few)) b) });
+}
+
+-- what holds before each round
+pub record IsRefining (s n : Diagrams) (t : Table) (blocks : List ℕ) (count : ℕ) : Type 0 where
+  pub keeps : Keeps s n
+  pub size : length blocks ≡ size_of t
+  pub order : IsInOrder (slice_index blocks) (size_of t)
+  pub number : blocks_among (slice_index blocks) (size_of t) ≡ count
+  pub rounds : ℕ
+  pub divided : IsDivided s.props (moves_of s t) rounds (slice_index blocks)
+
+-- one block alone
+among_one : (f : ℕ → ℕ) (n : ℕ) → ((i : ℕ) → i < suc n → f i ≡ 0) → blocks_among f (suc n) ≡ 1
+among_one f zero e = rw (e 0 (omega arith)) refl
+among_one f (suc n) e =
+    let r = among_one f n (λ i h. e i (omega (arith, h))) in
+    let q = e (suc n) (omega arith) in
+    rw (r, q) refl
+
+pub refining_begins : (s n : Diagrams) (t : Table) (blocks : List ℕ) → Keeps s n → 0 < size_of t → length blocks ≡ size_of t
+    → ((i : ℕ) → i < size_of t → slice_index blocks i ≡ 0) → IsRefining s n t blocks 1
+refining_begins s n t blocks k some l zeros = record {
+  keeps = k;
+  size = l;
+  order = λ i h. rw (zeros i h) (omega arith);
+  number = one (size_of t) some zeros;
+  rounds = 0;
+  divided = one_block_divides s.props (moves_of s t) (slice_index blocks) (λ i j h x. zeros i h ∙ sym (zeros j x));
+}
+  where
+    one : (size : ℕ) → 0 < size → ((i : ℕ) → i < size → slice_index blocks i ≡ 0) → blocks_among (slice_index blocks) size ≡ 1
+    one zero h z = absurd (omega (arith, h))
+    one (suc m) h z = among_one (slice_index blocks) m z
+
+module _ (s m n : Diagrams) (t : Table) (blocks : List ℕ) (count : ℕ) (keys : List Key) (next : List ℕ) (kinds : List Key)
+    (first : t.first < size_of t) (f : Fits s t) (r : IsRefining s m t blocks count) (k : Keeps m n) (a : AreKeys m n t blocks keys (size_of t))
+    (p : IsPartition keys next kinds (size_of t)) where
+  grown : Keeps s n
+  grown = Keeps_trans s m n r.keeps k
+
+  keys-now : AreKeys s n t blocks keys (size_of t)
+  keys-now = keys_back s m n t blocks keys (size_of t) (omega arith) r.keeps f a
+
+  divided-next : IsDivided s.props (moves_of s t) (suc r.rounds) (slice_index next)
+  divided-next =
+      round_divides s.props (moves_of s t) r.rounds (slice_index blocks) (slice_index next) (fits_closed s t first f) r.divided
+      (round_made s n t blocks keys next kinds grown f keys-now p)
+
+  pub no_coarser : (count ≤ length kinds) × (count ≡ length kinds → (i : ℕ) → i < size_of t → slice_index blocks i ≡ slice_index next i)
+  no_coarser =
+      let c = finer_has_more (slice_index next) (slice_index blocks) (size_of t) p.order r.order
+      (round_is_finer s.props (moves_of s t) r.rounds (slice_index blocks) (slice_index next) r.divided divided-next) in
+      (rw (← r.number, ← p.number) c.count, λ e. c.same (r.number ∙ e ∙ sym p.number))
+
+  -- a round that makes more blocks
+  pub refining_more : IsRefining s n t next (length kinds)
+  refining_more = record {
+    keeps = grown;
+    size = p.size;
+    order = p.order;
+    number = p.number;
+    rounds = suc r.rounds;
+    divided = divided-next;
+  }
+
+  -- a round that makes no more
+  pub refining_ends : count ≡ length kinds → IsRefined s n t next kinds
+  refining_ends e = record {
+    keys = keys;
+    rounds = suc r.rounds;
+    divided = divided-next;
+    relabelled = record {
+      size = a.size;
+      key = λ i h.
+          let x = keys-now.key i h in
+          (x.0, x.1, record { live = x.2.live; value = λ b. x.2.value b ∙ no_coarser.1 e (eval s (row_of t i) b) ((f i h).targets b) });
+    };
+    partition = p;
+  }
+
+-- reading what is made of keys
+mark-map : (ks : List Key) (i : ℕ) (k : Key) → slice_get ks i ≡ Some k → slice_index (map (λ x. x.mark) ks) i ≡ k.mark
+mark-map [] i k e = absurd (cc)
+mark-map (x ∷ ks) zero k e = ap mark_in e
+mark-map (x ∷ ks) (suc i) k e = mark-map ks i k e
+
+row-map : (ks : List Key) (i : ℕ) (k : Key) → slice_get ks i ≡ Some k → slice_index_or (map (λ x. x.row) ks) i (record { 0 = 0 }) ≡ k.row
+row-map [] i k e = absurd (cc)
+row-map (x ∷ ks) zero k e = ap id_in e
+row-map (x ∷ ks) (suc i) k e = row-map ks i k e
+
+pub length-rows : (ks : List Key) → length (map (λ x. x.row) ks) ≡ length ks
+length-rows [] = refl
+length-rows (x ∷ ks) = ap suc (length-rows ks)
+
+module _ (s n : Diagrams) (t q : Table) (blocks : List ℕ) (kinds : List Key) (f : Fits s t) (k : Keeps s n) (r : IsRefined s n t blocks kinds)
+    (first : q.first ≡ slice_index blocks t.first) (marks : q.marks ≡ map (λ x. x.mark) kinds) (rows : q.rows ≡ map (λ x. x.row) kinds) where
+  pub size-is : size_of q ≡ length kinds
+  size-is = ap length rows ∙ length-rows kinds
+
+  pub block-within : (i : ℕ) → i < size_of t → slice_index blocks i < size_of q
+  block-within i h = rw (size-is, ← r.partition.number) (within (slice_index blocks) (size_of t) i r.partition.order h)
+
+  pub has_member : (b : ℕ) → b < size_of q → (i : ℕ) × (i < size_of t) × (slice_index blocks i ≡ b)
+  has_member b h = member (slice_index blocks) (size_of t) b r.partition.order (rw (r.partition.number) (rw size-is at h))
+
+  row-is : (i : ℕ) (h : i < size_of t) → row_of q (slice_index blocks i) ≡ (r.relabelled.key i h).0
+  row-is i h =
+      ap (λ xs. slice_index_or xs (slice_index blocks i) (record { 0 = 0 })) rows
+      ∙ row-map kinds (slice_index blocks i) _ (r.partition.key i h ∙ (r.relabelled.key i h).1)
+
+  mark-is : (i : ℕ) → i < size_of t → mark_of q (slice_index blocks i) ≡ mark_of t i
+  mark-is i h =
+      ap (λ xs. slice_index xs (slice_index blocks i)) marks
+      ∙ mark-map kinds (slice_index blocks i) _ (r.partition.key i h ∙ (r.relabelled.key i h).1)
+
+  row-means : (i : ℕ) → i < size_of t → IsRelabelled s n t blocks i (row_of q (slice_index blocks i))
+  row-means i h = rw (row-is i h) (r.relabelled.key i h).2
+
+  row-fits : (i : ℕ) → i < size_of t → IsRow n (size_of q) (row_of q (slice_index blocks i))
+  row-fits i h =
+      let m = row-means i h in
+      record {
+        live = m.live;
+        letters = λ a b same. m.value a ∙ ap (slice_index blocks) ((f i h).letters a b (λ v l. same v (rw k.extends.props l))) ∙ sym (m.value b);
+        targets = λ a. rw (m.value a) (block-within (eval s (row_of t i) a) ((f i h).targets a));
+      }
+
+  pub merged_fits : Fits n q
+  merged_fits b h = let i = has_member b h in subst (λ z. IsRow n (size_of q) (row_of q z)) i.2 (row-fits i.0 i.1)
+
+  pub merged_quotient : IsQuotient s.props (moves_of s t) (moves_of n q) (slice_index blocks)
+  merged_quotient = record {
+    first = first;
+    mark = mark-is;
+    next = λ i a h o. (row-means i h).value (letter_truth n.props a) ∙ ap (λ p. slice_index blocks (eval s (row_of t i) (letter_truth p a))) k.extends.props;
+    member = has_member;
+  }
+
+key_before : (ks : List Key) (x : Key) (i : ℕ) (k : Key) → slice_get ks i ≡ Some k → slice_get (ks ++ x ∷ []) i ≡ Some k
+key_before ks x i k e = get-push_before ks x i (get-within ks i k e) ∙ e
+
+-- no key at all
+pub keys_none : (s : Diagrams) (t : Table) (blocks : List ℕ) (keys : List Key) → keys ≡ [] → AreKeys s s t blocks keys 0
+keys_none s t blocks keys e = record { size = ap length e; key = λ at h. absurd (omega (arith, h)) }
+
+-- one more key
+pub keys_more : (s n after : Diagrams) (t : Table) (blocks : List ℕ) (keys : List Key) (count x : ℕ) (row id : Id) → Keeps s n → Keeps n after → Fits s t → count < size_of t
+    → AreKeys s n t blocks keys count → x ≡ mark_of t count → row ≡ row_of t count → Means after id (λ a. slice_index blocks (eval n row a))
+    → AreKeys s after t blocks (keys ++ record { mark = x; row = id } ∷ []) (count + 1)
+keys_more s n after t blocks keys count x row id keeps grows f within k e r m = record {
+  size = length-append keys _ ∙ ap (λ z. z + 1) k.size;
+  key = λ i l. elim (place_cases i count l) [
+    | inl h ↦
+        let y = k.key i h in (
+          y.0,
+          key_before keys _ i _ y.1,
+          record {
+            live = live_lasts n after grows.extends y.0 y.2.live;
+            value = λ a. eval-lasts n after grows.was grows.now grows.extends y.0 y.2.live a ∙ y.2.value a;
+          },
+        )
+    | inr h ↦ (
+      id,
+      ap (slice_get (keys ++ record { mark = x; row = id } ∷ [])) (h ∙ sym k.size) ∙ get-push_at keys _ ∙ (λ d. Some (record { mark = (e ∙ ap (mark_of t) (sym h)) d; row = id })),
+      record {
+        live = m.live;
+        value = λ a.
+            m.value a
+            ∙ ap (λ z. slice_index blocks (eval n z a)) (r ∙ ap (row_of t) (sym h))
+            ∙ ap (slice_index blocks) (row-lasts s n t keeps f i (rw (h) within) a);
+      },
+    )
+  ];
+}
+
+-- all locations in block 0
+pub replicate-zero : (n i : ℕ) → slice_index (replicate n 0) i ≡ 0
+replicate-zero zero i = refl
+replicate-zero (suc n) zero = refl
+replicate-zero (suc n) (suc i) = replicate-zero n i
+
+pub length-zeros : (n : ℕ) → length {A = ℕ} (replicate n 0) ≡ n
+length-zeros zero = refl
+length-zeros (suc n) = ap suc (length-zeros n)
+
+pub length-marks : (ks : List Key) → length (map (λ x. x.mark) ks) ≡ length ks
+length-marks [] = refl
+length-marks (x ∷ ks) = ap suc (length-marks ks)
+
+-- the block of a location has a kind
+pub refined_within : (s n : Diagrams) (t : Table) (blocks : List ℕ) (kinds : List Key) → IsRefined s n t blocks kinds → (i : ℕ) → i < size_of t → slice_index blocks i < length kinds
+refined_within s n t blocks kinds r i h = rw (← r.partition.number) (within (slice_index blocks) (size_of t) i r.partition.order h)
+
+-- what is renumbered is least, with the marks of the automaton that was divided
+pub least_ok : {E : Type 0} (s n after : Diagrams) (t q : Table) (blocks : List ℕ) (kinds : List Key) → t.first < size_of t → Fits s t → Keeps s n → Keeps n after
+    → IsRefined s n t blocks kinds → IsQuotient s.props (moves_of s t) (moves_of n q) (slice_index blocks) → (r : Result Table E)
+    → IfOk r (λ u. IsPartOf n.props (moves_of n q) (moves_of after u)) → IfOk r (λ u. IsNumbered n.props (moves_of after u))
+    → IfOk r (λ u. IsLeast s.props (moves_of after u))
+least_ok s n after t q blocks kinds first f k grows r c (Err e) a b = tt
+least_ok s n after t q blocks kinds first f k grows r c (Ok u) a b =
+    divided_is_least s.props (moves_of s t) (moves_of n q) (moves_of after u) r.rounds (slice_index blocks) (fits_closed s t first f) r.divided c
+    (subst (λ p. IsPartOf p (moves_of n q) (moves_of after u)) k.extends.props a)
+    (subst (λ p. IsNumbered p (moves_of after u)) k.extends.props b)
+
+pub marks_ok : {E : Type 0} (s n after : Diagrams) (t q : Table) (blocks : List ℕ) → t.first < size_of t → q.first < size_of q → Fits s t → Fits n q → Keeps s n
+    → IsQuotient s.props (moves_of s t) (moves_of n q) (slice_index blocks) → (r : Result Table E)
+    → IfOk r (λ u. HaveSameMarks (moves_of after u) (moves_of n q)) → IfOk r (λ u. HaveSameMarks (moves_of after u) (moves_of s t))
+marks_ok s n after t q blocks first last f g k c (Err e) a = tt
+marks_ok s n after t q blocks first last f g k c (Ok u) a = λ w.
+    a w ∙ sym (same_marks s n t q f g first last k.extends.props (λ v o. sym (quotient_marks s.props (moves_of s t) (moves_of n q) (slice_index blocks) (fits_closed s t first f) c v o)) w)

@@ -1,0 +1,58 @@
+-- Rounds of refinement (Moore 1956), and blocks that are stable.
+use Rattle.std.proofs.Common.{◌≡◌, ◌≢◌, ◌<◌, ◌≤◌, ◌^◌, ◌⊎◌, ℕ, suc, [], ◌∷◌, sym, ◌∙◌, arith, length, inl, inr}
+use Rattle.std.proofs.lemmas.Bool.{cases_eq}
+use Rattle.forms.specs.Word.{Word, IsOver}
+use Rattle.automata.specs.Moves.{Moves, mark_after, IsClosed}
+use Rattle.automata.proofs.Words.{over-nil, over-head, over-tail, over-cons}
+use Rattle.minimise.specs.Rounds.{AgreeWithin, IsDivided}
+use Rattle.minimise.proofs.BlockLemmas.{IsFiner}
+
+-- the new blocks go by the mark and by the old blocks of the targets
+pub record IsRound (p : ℕ) (m : Moves) (old new : ℕ → ℕ) : Type 0 where
+  pub mark : (i j : ℕ) → i < m.size → j < m.size → new i ≡ new j → m.mark i ≡ m.mark j
+  pub next : (i j : ℕ) → i < m.size → j < m.size → new i ≡ new j → (a : ℕ) → a < 2 ^ p → old (m.next i a) ≡ old (m.next j a)
+  pub apart : (i j : ℕ) → i < m.size → j < m.size → new i ≢ new j
+      → (m.mark i ≢ m.mark j) ⊎ ((a : ℕ) × (a < 2 ^ p) × (old (m.next i a) ≢ old (m.next j a)))
+
+agree-step : (p : ℕ) (m : Moves) (k : ℕ) (old new : ℕ → ℕ) → IsClosed p m → IsDivided p m k old → IsRound p m old new
+    → (i j : ℕ) → i < m.size → j < m.size → new i ≡ new j → AgreeWithin p m (suc k) i j
+agree-step p m k old new c d r i j h l e [] o s = r.mark i j h l e
+agree-step p m k old new c d r i j h l e (a ∷ w) o s =
+    let x = over-head p a w o in
+    d.same (m.next i a) (m.next j a) (c.next i a h x) (c.next j a l x) (r.next i j h l e a x) w (over-tail p a w o) (omega (arith, s))
+
+-- a round divides by words of one letter more
+pub round_divides : (p : ℕ) (m : Moves) (k : ℕ) (old new : ℕ → ℕ) → IsClosed p m → IsDivided p m k old → IsRound p m old new
+    → IsDivided p m (suc k) new
+round_divides p m k old new c d r =
+    record {
+      same = agree-step p m k old new c d r;
+      apart = λ i j h l n. elim (r.apart i j h l n) [
+        | inl q ↦ record { word = []; over = over-nil p; short = omega arith; differ = q }
+        | inr q ↦
+            let t = d.apart (m.next i q.0) (m.next j q.0) (c.next i q.0 h q.1) (c.next j q.0 l q.1) q.2 in
+            record {
+              word = q.0 ∷ t.word;
+              over = over-cons p q.0 t.word q.1 t.over;
+              short = omega (arith, t.short);
+              differ = t.differ;
+            }
+      ];
+    }
+
+-- and into finer blocks
+pub round_is_finer : (p : ℕ) (m : Moves) (k : ℕ) (old new : ℕ → ℕ) → IsDivided p m k old → IsDivided p m (suc k) new → IsFiner new old m.size
+round_is_finer p m k old new d e i j h l q =
+    elim (cases_eq (old i) (old j)) [
+      | inl x ↦ x
+      | inr x ↦
+          let t = d.apart i j h l x in
+          absurd (t.differ (e.same i j h l q t.word t.over (omega (arith, t.short))))
+    ]
+
+-- one block divides by no word
+pub one_block_divides : (p : ℕ) (m : Moves) (block : ℕ → ℕ) → ((i j : ℕ) → i < m.size → j < m.size → block i ≡ block j) → IsDivided p m 0 block
+one_block_divides p m block e = record {
+  same = λ i j h l q w o s. absurd (omega (arith, s));
+  apart = λ i j h l n. absurd (n (e i j h l));
+}

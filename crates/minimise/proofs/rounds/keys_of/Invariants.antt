@@ -1,0 +1,9 @@
+use Rattle.diagrams.specs.Live.{Keeps}
+use Rattle.minimise.specs.Rounds.{AreKeys}
+use Rattle.minimise.proofs.rounds.keys_of.Given as goal
+
+abbrev pub invariant-loop-at : goal.invariant-loop-at
+invariant-loop-at l = record {
+  keeps : Keeps l.fn.store l.store;
+  keys : AreKeys l.fn.store l.store l.automaton l.blocks l.keys.items l.at;
+}
