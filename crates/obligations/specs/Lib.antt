@@ -1,0 +1,5 @@
+pub mod Table
+pub mod Value
+pub mod Located
+pub mod Numbers
+pub mod Operators

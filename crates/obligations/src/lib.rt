@@ -1,0 +1,16 @@
+//! Alternating automata as tables of obligations, and how they become deterministic.
+//!
+//! `specs/Value.antt` says what an obligation is worth on a word. A location of the deterministic
+//! automaton stands for a claim, a diagram over obligations; each step composes the claim with the
+//! bodies and cuts the result where its propositions end, so no letter is enumerated.
+#![tactic(auto)]
+
+mod cells;
+mod cut;
+mod explore;
+mod frontier;
+#[cfg(test)]
+mod tests;
+
+pub use cells::{Cells, Obligation};
+pub use explore::determinise;
