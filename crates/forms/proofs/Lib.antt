@@ -5,3 +5,5 @@ pub mod PathRelation
 pub mod ShortlexLemmas
 pub mod Facts
 pub mod PartLemmas
+pub mod Duals
+pub mod NormalLemmas

@@ -10,3 +10,4 @@ pub mod Verdict
 pub mod Equivalence
 pub mod Rows
 pub mod PathLaws
+pub mod Normal

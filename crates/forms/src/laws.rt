@@ -1,6 +1,7 @@
 //! Laws of the definitions, each proved because the contract of a function here names it.
 ghost use Rattle.forms.specs.Rows.{TrueRow, FalseRow, AtomRow, NotRow, AndRow, OrRow, ImpliesRow, IffRow, NextRow, WeakNextRow, UntilRow, ReleaseRow, EventuallyRow, AlwaysRow, MeetsRow};
 ghost use Rattle.forms.specs.PathLaws.{DiamondHolds, BoxHolds, StepGoes, TestGoes, ChoiceGoes, SeqGoes, StarGoes, GoesToSuffixes, StarIsClosure};
+ghost use Rattle.forms.specs.Normal.{NormalHolds, NegatedHolds, NormalGoes, NormalIsNormal};
 ghost use Rattle.forms.specs.Shortlex.{ShorterComesFirst, LesserLetterComesFirst, NeverBeforeItself, BeforeIsTransitive, OneComesFirst};
 
 /// The table of satisfaction, form by form (De Giacomo and Vardi 2013; the empty word is our own).
@@ -42,4 +43,12 @@ pub fn laws_of_shortlex()
     ensures never_itself { NeverBeforeItself }
     ensures transitive { BeforeIsTransitive }
     ensures total { OneComesFirst }
+{}
+
+/// Negation normal form keeps what a formula says of each word, the empty one included, and where a path leads.
+pub fn laws_of_normal_form()
+    ensures holds { NormalHolds }
+    ensures negated { NegatedHolds }
+    ensures goes { NormalGoes }
+    ensures shape { NormalIsNormal }
 {}

@@ -9,10 +9,12 @@ mod copies;
 mod counts;
 mod form;
 mod laws;
+mod normal;
 #[cfg(test)]
 mod tests;
 
 pub use copies::copy;
 pub use counts::parts;
 pub use form::{Form, Path};
-pub use laws::{laws_of_paths, laws_of_satisfaction, laws_of_shortlex};
+pub use laws::{laws_of_normal_form, laws_of_paths, laws_of_satisfaction, laws_of_shortlex};
+pub use normal::nnf;

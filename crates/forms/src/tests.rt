@@ -1,7 +1,7 @@
 ghost use Rattle.std.specs.Prelude.{◌≡◌, IfOk};
 ghost use Rattle.forms.specs.Tree.{tree, nodes};
 
-use crate::{Form, Path, copy, parts};
+use crate::{Form, Path, copy, nnf, parts};
 use bes_io::Memory;
 use std::alloc::Global;
 
@@ -55,8 +55,27 @@ fn is_sample(form: &Form) -> bool {
     }
 }
 
+// `N !b`
+fn is_dual_of_next_b(form: &Form) -> bool {
+    match form {
+        Form::WeakNext(f) => match &**f {
+            Form::Not(g) => is_atom(g, 1),
+            _ => false,
+        },
+        _ => false,
+    }
+}
+
+// `[a? ; true] N !b`
+fn is_dual_of_sample(form: &Form) -> bool {
+    match form {
+        Form::BoxAll(p, f) => is_sample_path(p) && is_dual_of_next_b(f),
+        _ => false,
+    }
+}
+
 #[test]
-fn a_copy_is_the_same_tree(rt: HostRuntime) -> Result<(), Memory> {
+fn a_copy_is_the_same_tree_and_a_negation_is_pushed_inwards(rt: HostRuntime) -> Result<(), Memory> {
     let form = sample(rt.alloc())?;
     let made = copy(rt.alloc(), &form)?;
     assert!(rt; is_sample(&made), "each node was copied");
@@ -64,5 +83,8 @@ fn a_copy_is_the_same_tree(rt: HostRuntime) -> Result<(), Memory> {
         parts(&made) == 4,
         "a, b, X b and the whole; true is no part"
     );
+    let negation = Form::Not(Box::new(rt.alloc(), form)?);
+    let dual = nnf(rt.alloc(), &negation)?;
+    assert!(rt; is_dual_of_sample(&dual), "the path is not negated");
     Ok(())
 }
