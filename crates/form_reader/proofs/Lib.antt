@@ -12,3 +12,10 @@ pub mod Pieces
 pub mod NamesLemmas
 pub mod NamesAfter
 pub mod Texts
+pub mod PartsFound
+pub mod Cuts
+pub mod Written
+pub mod Numbered
+pub mod Spelled
+pub mod PrintedBack
+pub mod PrintedFacts

@@ -21,7 +21,8 @@ position_or_len-map p f (x ∷ xs) = ap (λ n. cond (not (p (f x))) (1 + n) 0) (
 pub position-map : {A B : Type 0} (p : B → Bool) (f : A → B) (xs : List A) → position p (map f xs) ≡ position (λ x. p (f x)) xs
 position-map p f xs = rw (position_or_len-map p f xs, length-map)
 
-or-left : (a b : Bool) → (a || b) ≡ false → a ≡ false
+-- neither of the two
+pub or-left : (a b : Bool) → (a || b) ≡ false → a ≡ false
 or-left true b e = cc
 or-left false b e = refl
 

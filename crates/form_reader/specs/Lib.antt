@@ -11,3 +11,7 @@ pub mod Outcome
 pub mod Blames
 pub mod Found
 pub mod Stack
+pub mod Printed
+pub mod Dialects
+pub mod ReadBack
+pub mod PartSearch

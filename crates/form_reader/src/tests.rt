@@ -1,5 +1,6 @@
-use crate::{Dialect, FormFault, NameFault, Names, read_form};
-use forms::Form;
+use crate::{Dialect, FormFault, NameFault, Names, print_form, print_part, read_form};
+use bes_io::Text;
+use forms::{Form, parts};
 use std::alloc::Global;
 use std::test::Fail;
 
@@ -150,5 +151,69 @@ fn names_are_numbered_in_order(rt: HostRuntime) -> Result<(), Fail> {
     assert_eq!(rt; names.find(b"a".as_slice()), Some(1));
     assert_eq!(rt; names.len(), 2);
     assert!(rt; names.name(0) == b"b".as_slice());
+    Ok(())
+}
+
+/// The text of the formula that is read from a text.
+fn printed(alloc: Global, dialect: Dialect, text: &str) -> Result<Text, Fail> {
+    let mut names = Names::new(alloc)?;
+    let form = read_form(alloc, dialect, text.as_bytes(), &mut names)?;
+    Ok(print_form(alloc, &form, &names)?)
+}
+
+#[test]
+fn prints_what_it_reads(rt: HostRuntime) -> Result<(), Fail> {
+    for (dialect, text, shown) in [
+        (Dialect::Ltlf, "!(a U X b)", "!(a U X b)"),
+        (Dialect::Ltlf, "~(a<->b)", "!(a <-> b)"),
+        (
+            Dialect::Ltlf,
+            "last -> tt & ff R WX G a || F c",
+            "(N false -> ((true & (false R N G a)) | F c))",
+        ),
+        (
+            Dialect::Ldlf,
+            "<({a & b} ; c?)* + {!a}?>[true*]b",
+            "<(({(a & b)} ; c?)* + {!a}?)>[true*]b",
+        ),
+        (Dialect::Ldlf, "[(a*)*]end", "[(a*)*][true]false"),
+        (Dialect::Ldlf, "<last?> tt", "<{<true>[true]false}?>true"),
+    ] {
+        let text = printed(rt.alloc(), dialect, text)?;
+        assert!(rt; text.bytes() == shown.as_bytes(), "{shown}");
+    }
+    Ok(())
+}
+
+/// The text of one part of a formula of LDLf, if it has that many.
+fn printed_part(alloc: Global, text: &str, part: u64) -> Result<Option<Text>, Fail> {
+    let mut names = Names::new(alloc)?;
+    let form = read_form(alloc, Dialect::Ldlf, text.as_bytes(), &mut names)?;
+    if part == 0 || part > parts(&form) {
+        return Ok(None);
+    }
+    Ok(Some(print_part(alloc, &form, part, &names)?))
+}
+
+#[test]
+fn operands_and_tests_come_before_what_they_make(rt: HostRuntime) -> Result<(), Fail> {
+    let text = "<(a? ; b + {!b}?)*>(c & a)";
+    let whole = "<((a? ; b) + {!b}?)*>(c & a)";
+    for (part, shown) in [
+        (1, "a"),
+        (2, "b"),
+        (3, "!b"),
+        (4, "c"),
+        (5, "a"),
+        (6, "(c & a)"),
+        (7, whole),
+    ] {
+        let printed = printed_part(rt.alloc(), text, part)?;
+        assert!(rt;
+            printed.is_some_and(|found| found.bytes() == shown.as_bytes()),
+            "part {part}"
+        );
+    }
+    assert!(rt; printed_part(rt.alloc(), text, 8)?.is_none());
     Ok(())
 }

@@ -1,0 +1,32 @@
+-- The search for an item of a list by its number.
+use Rattle.std.specs.Prelude.{◌≡◌, ◌≤◌, ◌+◌, ◌-◌, ◌++◌, ℕ, List, [], Some, length, slice_get}
+use Rattle.forms.specs.Tree.{Formula, True, False, Atom, Not, And, Or, Implies, Iff, Next, WeakNext, Until, Release, Eventually, Always, Diamond, BoxAll}
+use Rattle.forms.specs.Parts.{parts, test_parts}
+
+-- the item has the number in the list, counted from 1
+pub record IsItem {A : Type 0} (xs : List A) (k : ℕ) (x : A) : Type 0 where
+  pub at : slice_get xs (k - 1) ≡ Some x
+
+-- the number is past the end of the list, by so many
+pub record IsPast {A : Type 0} (xs : List A) (k left : ℕ) : Type 0 where
+  pub by : k ≡ length xs + left
+  pub some_left : 1 ≤ left
+
+-- the parts before the formula itself
+abbrev pub operand_parts : Formula → List Formula
+operand_parts True = []
+operand_parts False = []
+operand_parts (Atom i) = []
+operand_parts (Not f) = parts f
+operand_parts (And f g) = parts f ++ parts g
+operand_parts (Or f g) = parts f ++ parts g
+operand_parts (Implies f g) = parts f ++ parts g
+operand_parts (Iff f g) = parts f ++ parts g
+operand_parts (Next f) = parts f
+operand_parts (WeakNext f) = parts f
+operand_parts (Until f g) = parts f ++ parts g
+operand_parts (Release f g) = parts f ++ parts g
+operand_parts (Eventually f) = parts f
+operand_parts (Always f) = parts f
+operand_parts (Diamond p f) = test_parts p ++ parts f
+operand_parts (BoxAll p f) = test_parts p ++ parts f
