@@ -1,7 +1,10 @@
 pub mod Holds
 pub mod Cuts
 pub mod Numbered
-pub mod Operators
+pub mod InclusionLemmas
 pub mod Explored
 pub mod Exploring
 pub mod TestLemmas
+mod Entering
+mod Stands
+mod Simulating

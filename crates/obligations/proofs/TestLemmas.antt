@@ -1,6 +1,6 @@
 -- What the tests know of the tables that they make.
 use Rattle.std.proofs.Common.{◌≡◌, ℕ, ◌<◌, ◌≤◌, ◌+◌, ◌++◌, Bool, List, [], ◌∷◌, length, length-append, refl, sym, ◌∙◌, ap, arith, inl, inr}
-use Rattle.std.specs.Prelude.{nat_lt, min, max}
+use Rattle.std.specs.Prelude.{nat_lt}
 use Rattle.std.proofs.lemmas.Bool.{cases_lt}
 use Rattle.std.proofs.lemmas.Bool.Decides.{nat_tests}
 use Rattle.std.proofs.lemmas.List.{get_or_append_left, get_or_at}
@@ -11,7 +11,7 @@ use Rattle.diagrams.specs.Eval.{Diagrams, eval, DependsOn}
 use Rattle.diagrams.specs.Live.{IsCanonical, IsTruth, Keeps, Means}
 use Rattle.diagrams.specs.Work.{CanCombine, applied, combined_value}
 use Rattle.diagrams.specs.Composed.{IsObligation}
-use Rattle.diagrams.proofs.Meaning.{eval-lasts, truth_lasts, Keeps_trans, Extends_refl}
+use Rattle.diagrams.proofs.Meaning.{truth_lasts, Keeps_trans, Extends_refl}
 use Rattle.diagrams.proofs.Table.{bool_cases}
 use Rattle.diagrams.proofs.TestLemmas.{over_weaker, over_later, can_combine}
 use Rattle.obligations.specs.declared.cells.Obligation.{Obligation}

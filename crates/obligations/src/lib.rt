@@ -5,12 +5,19 @@
 //! bodies and cuts the result where its propositions end, so no letter is enumerated.
 #![tactic(auto)]
 
+mod bodies;
 mod cells;
 mod cut;
 mod explore;
+mod following;
 mod frontier;
+mod inclusions;
+mod relation;
+mod simulation;
 #[cfg(test)]
 mod tests;
 
 pub use cells::{Cells, Obligation};
 pub use explore::determinise;
+pub use following::follow;
+pub use inclusions::{Inclusions, find_inclusions, themselves};

@@ -4,8 +4,10 @@ ghost use Rattle.diagrams.specs.Eval.{DependsOn};
 ghost use Rattle.diagrams.specs.Live.{IsCanonical, IsTruth, Keeps};
 ghost use Rattle.automata.specs.Table.{Fits};
 ghost use Rattle.obligations.specs.Value.{FitsCells};
+ghost use Rattle.obligations.specs.Inclusion.{IsWider};
+ghost use Rattle.obligations.specs.Followed.{wider_of};
 
-use crate::{Cells, determinise};
+use crate::{Cells, Inclusions, determinise, find_inclusions, follow, themselves};
 use automata::Automaton;
 use bes_io::Memory;
 use diagrams::{Id, Op, Store};
@@ -105,7 +107,31 @@ fn accepted(store: &Store, made: &Automaton, word: &[u64]) -> Result<bool, Memor
     Ok(made.mark(at) == 1)
 }
 
-// Whether the conjunction of some obligations holds on each word as it must.
+// The automaton of a conjunction of obligations, once those of the locations of another are added.
+fn followed(
+    alloc: Global,
+    store: &mut Store,
+    cells: &mut Cells,
+    made: &Automaton,
+    lists: &Inclusions,
+    start: &[u32],
+) -> Result<Automaton, Memory>
+    requires props { store.old.props ≡ 2 }
+    requires made { Fits store.old made.now }
+    requires cells { FitsCells store.old cells.old }
+    requires wider { IsWider store.old made.now (wider_of lists.now) }
+    ensures keeps { Keeps store.old store.new }
+    ensures cells { FitsCells store.new cells.new }
+    ensures fits { IfOk result (Fits store.new) }
+{
+    follow(alloc, store, cells, made, lists)?;
+    let to = 2 + cells.len();
+    let claim = conjunction(store, FIRST, to, start)?;
+    determinise(alloc, store, cells, claim)
+}
+
+// Whether the conjunction of some obligations holds on each word as it must, and so does the
+// obligation of the first location of its automaton.
 fn agree(
     alloc: Global,
     entries: &[(bool, &[&[u32]])],
@@ -114,15 +140,66 @@ fn agree(
 ) -> Result<bool, Memory> {
     let count = 3;
     let mut store = Store::new(alloc, 2)?;
-    let cells = table(alloc, &mut store, count, entries)?;
+    let mut cells = table(alloc, &mut store, count, entries)?;
     let claim = conjunction(&mut store, FIRST, 2 + count, start)?;
     let made = determinise(alloc, &mut store, &cells, claim)?;
+    let own = themselves(alloc, &store, &made)?;
+    let first = [2 + cells.len()];
+    let plain = followed(alloc, &mut store, &mut cells, &made, &own, &first)?;
+    let wider = find_inclusions(alloc, &store, &made)?;
+    let first = [2 + cells.len()];
+    let closed = followed(alloc, &mut store, &mut cells, &made, &wider, &first)?;
     for (word, want) in cases {
-        if accepted(&store, &made, word)? != *want {
+        if accepted(&store, &made, word)? != *want
+            || accepted(&store, &plain, word)? != *want
+            || accepted(&store, &closed, word)? != *want
+        {
             return Ok(false);
         }
     }
     Ok(true)
+}
+
+// How many locations the conjunction of the obligations of the three locations of `a` until `b` has,
+// with each location alone and with those that accept more.
+fn sizes(alloc: Global) -> Result<(u32, u32), Memory> {
+    let mut store = Store::new(alloc, 2)?;
+    let until: [(bool, &[&[u32]]); 1] = [(false, &[&[B], &[A, FIRST]])];
+    let mut cells = table(alloc, &mut store, 1, &until)?;
+    let claim = conjunction(&mut store, FIRST, 3, &[FIRST])?;
+    let made = determinise(alloc, &mut store, &cells, claim)?;
+    let own = themselves(alloc, &store, &made)?;
+    let plain = followed(alloc, &mut store, &mut cells, &made, &own, &[3, 4, 5])?;
+    let wider = find_inclusions(alloc, &store, &made)?;
+    let closed = followed(alloc, &mut store, &mut cells, &made, &wider, &[6, 7, 8])?;
+    Ok((plain.size(), closed.size()))
+}
+
+#[test]
+fn locations_that_accept_more_join_claims(rt: HostRuntime) -> Result<(), Memory> {
+    // Once the rejecting location is asked for, all three are.
+    assert_eq!(rt; sizes(rt.alloc())?, (3, 1));
+    Ok(())
+}
+
+#[test]
+fn cells_give_back_what_was_added_and_set(rt: HostRuntime) -> Result<(), Memory> {
+    let alloc = rt.alloc();
+    let mut store = Store::new(alloc, 2)?;
+    let never = store.terminal(0)?;
+    let always = store.terminal(1)?;
+    let mut cells = Cells::new(alloc);
+    let first = cells.add(true, never)?;
+    let second = cells.add(false, never)?;
+    cells.set(second, always);
+    assert_eq!(rt; cells.len(), 2);
+    assert!(rt; cells.ends(first) && !cells.ends(second), "end values");
+    assert!(rt; cells.body(first) == never, "the body that was added");
+    assert!(rt;
+        cells.body(second) == always && always != never,
+        "the body that was set"
+    );
+    Ok(())
 }
 
 #[test]

@@ -1,7 +1,7 @@
-use Rattle.std.proofs.Common.{◌≡◌, ◌<◌, ◌≤◌, arith}
+use Rattle.std.proofs.Common.{arith}
 use Rattle.std.specs.Prelude.{slice_index}
 use Rattle.diagrams.specs.declared.work.Op.TheVariants.{And}
-use Rattle.diagrams.proofs.Meaning.{live_lasts, Keeps_trans}
+use Rattle.diagrams.proofs.Meaning.{live_lasts}
 use Rattle.obligations.proofs.TestLemmas.{made_first, made_next, and_small, can_and, variable_among}
 use Rattle.obligations.proofs.tests.conjunction.Goals as goal
 

@@ -1,6 +1,6 @@
-use Rattle.std.proofs.Common.{◌≡◌, ◌<◌, ◌≤◌, arith}
+use Rattle.std.proofs.Common.{arith}
 use Rattle.diagrams.specs.declared.work.Op.TheVariants.{Or}
-use Rattle.diagrams.proofs.Meaning.{live_lasts, Keeps_trans}
+use Rattle.diagrams.proofs.Meaning.{live_lasts}
 use Rattle.obligations.proofs.TestLemmas.{made_first, made_next, or_small, can_or, over_before}
 use Rattle.obligations.proofs.tests.disjunction.Goals as goal
 

@@ -1,4 +1,4 @@
-use Rattle.std.proofs.Common.{◌≡◌, ◌<◌, ◌+◌, arith, length}
+use Rattle.std.proofs.Common.{arith}
 use Rattle.diagrams.proofs.Meaning.{Keeps_trans}
 use Rattle.obligations.proofs.TestLemmas.{table_first, table_next, table_done}
 use Rattle.obligations.proofs.tests.table.Goals as goal

@@ -1,0 +1,228 @@
+-- Relations that rows and marks keep, and the lists that are made of them.
+use Rattle.std.proofs.Common.{◌≡◌, ℕ, zero, suc, ◌<◌, ◌≤◌, ◌+◌, ◌-◌, ◌*◌, ◌++◌, Bool, true, false, if◌then◌else◌, List, [], ◌∷◌, length, map, refl, sym, ◌∙◌, ap, arith, inl, inr, eq-eqb, Some, Result, IfOk}
+use Rattle.std.specs.Prelude.{nat_lt, ◌==◌, ◌&&◌, ◌||◌, slice_index_or, Contains}
+use Rattle.std.specs.HashSet as set
+use Rattle.std.specs.HashSet.{HashSet}
+use Rattle.std.proofs.lemmas.Bool.Decides.{nat_tests}
+use Rattle.std.proofs.lemmas.Result.{IfOk-weaker}
+use Rattle.std.proofs.lemmas.List.Elements.{Contains-append_left, Contains-push}
+use Rattle.std.proofs.lemmas.List.{get_or_append_left, get_or_at, length-map, map-append}
+use Rattle.diagrams.specs.declared.top.Id.{Id}
+use Rattle.diagrams.specs.declared.top.Look.TheVariants.{Terminal}
+use Rattle.diagrams.specs.Tree.{put}
+use Rattle.diagrams.specs.Eval.{Diagrams, top_of, eval, letter_truth}
+use Rattle.diagrams.specs.Live.{IsCanonical}
+use Rattle.diagrams.proofs.Meaning.{eval-terminal, live-above}
+use Rattle.diagrams.proofs.Parts.{IsParts, low-value, high-value}
+use Rattle.diagrams.proofs.Table.{bool_cases, and_true, eqb_true}
+use Rattle.diagrams.proofs.Works.{id_true}
+use Rattle.automata.specs.Table.{Table, size_of, mark_of, row_of, next_of}
+use Rattle.obligations.specs.declared.simulation.Compared.{Compared}
+use Rattle.obligations.specs.Inclusion.{accepts_from, all_accept, AllBelow, AllSimulate, IsSimulation, IsWider}
+use Rattle.obligations.specs.Followed.{wider_of}
+use Rattle.obligations.specs.Related.{Pairs, related, LeadsBelow, LeadsWithin, same_compared, IsKnown, IsNoted, IsSimulated, AreSimulated, or_same, AreSimulators, AcceptsAll, IsWiderAt}
+use Rattle.obligations.proofs.InclusionLemmas.{all_simulate}
+
+-- constants lead where the relation says
+pub leads_terminal : (s : Diagrams) (R : ℕ → ℕ → Bool) (f g : Id) (x y : ℕ) → top_of s f ≡ Some (Terminal x) → top_of s g ≡ Some (Terminal y) → R x y ≡ true → LeadsWithin s R f g
+leads_terminal s R f g x y ef eg h a = rw (eval-terminal s f x ef a, eval-terminal s g y eg a) h
+
+-- the parts of a diagram lead below what it leads below
+pub low_below : (s : Diagrams) → IsCanonical s → (size v : ℕ) (f lo hi : Id) → IsParts s v f lo hi → LeadsBelow s size f → LeadsBelow s size lo
+low_below s c size v f lo hi p b = record {
+  live = live-above v _ p.lo_above;
+  below = λ a. let h = b.below (put a v false) in rw (low-value s c v f lo hi p a) at h;
+}
+
+pub high_below : (s : Diagrams) → IsCanonical s → (size v : ℕ) (f lo hi : Id) → IsParts s v f lo hi → LeadsBelow s size f → LeadsBelow s size hi
+high_below s c size v f lo hi p b = record {
+  live = live-above v _ p.hi_above;
+  below = λ a. let h = b.below (put a v true) in rw (high-value s c v f lo hi p a) at h;
+}
+
+if_related : (R : ℕ → ℕ → Bool) (b : Bool) (x y z w : ℕ) → R x z ≡ true → R y w ≡ true → R (if b then x else y) (if b then z else w) ≡ true
+if_related R true x y z w h k = h
+if_related R false x y z w h k = k
+
+-- where both parts are within, the whole is
+pub leads_parts : (s : Diagrams) (R : ℕ → ℕ → Bool) (v : ℕ) (f fl fh g gl gh : Id) → IsParts s v f fl fh → IsParts s v g gl gh → LeadsWithin s R fl gl → LeadsWithin s R fh gh → LeadsWithin s R f g
+leads_parts s R v f fl fh g gl gh p q low high a =
+    rw (p.splits a, q.splits a) (if_related R (a v) (eval s fh a) (eval s fl a) (eval s gh a) (eval s gl a) (high a) (low a))
+
+module _ {S : Type 0} where
+  -- nothing is known at first
+  pub known_none : (s : Diagrams) (R : ℕ → ℕ → Bool) (known : HashSet Compared S) → set.IsEmpty known → IsKnown s R known
+  known_none s R known n pair e = let h = rw n at e in absurd (cc)
+
+  -- one pair more is known
+  pub known_next : (s : Diagrams) (R : ℕ → ℕ → Bool) (old new : HashSet Compared S) (f g : Id) → IsKnown s R old → LeadsWithin s R f g → IsNoted old new (record { lower = f; upper = g }) → IsKnown s R new
+  known_next s R old new f g known leads noted pair h =
+      let both : Compared = record { lower = f; upper = g } in
+      elim (bool_cases (same_compared both pair)) [
+        | inl t ↦
+            let e = and_true _ _ t in
+            let p : f ≡ pair.lower = id_true f pair.lower e.0 in
+            let q : g ≡ pair.upper = id_true g pair.upper e.1 in
+            rw (← p, ← q) leads
+        | inr n ↦ let up = noted pair in known pair (sym (rw n at up) ∙ h)
+      ]
+
+  -- the same pairs are known
+  pub known_same : (s : Diagrams) (R : ℕ → ℕ → Bool) (old new : HashSet Compared S) → ((other : Compared) → set.contains same_compared new other ≡ set.contains same_compared old other) → IsKnown s R old → IsKnown s R new
+  known_same s R old new same known pair h = known pair (sym (same pair) ∙ h)
+
+last_place : (at count : ℕ) → at < count + 1 → nat_lt at count ≡ false → count ≡ at
+last_place at count h t = let g : count ≤ at = grind (arith, nat_tests) in omega arith
+
+-- one location more is simulated by those to which it is related
+pub simulated_next : (s : Diagrams) (t : Table) (R : ℕ → ℕ → Bool) (x count : ℕ) → AreSimulated s t R x count → (R x count ≡ true → IsSimulated s t R x count) → AreSimulated s t R x (count + 1)
+simulated_next s t R x count all here y h r =
+    elim (bool_cases (nat_lt y count)) [
+      | inl u ↦ let l : y < count = grind (arith, nat_tests) in all y l r
+      | inr u ↦ let e : count ≡ y = last_place y count h u in rw (← e) (here (rw (← e) at r))
+    ]
+
+-- those of one location more are
+pub rounds_next : (s : Diagrams) (t : Table) (r q : Pairs) (x : ℕ) → 0 < x → q ≡ r → ((y : ℕ) → x ≤ y → y < size_of t → AreSimulated s t (related r) y (size_of t))
+    → AreSimulated s t (related q) (x - 1) (size_of t) → (y : ℕ) → x - 1 ≤ y → y < size_of t → AreSimulated s t (related q) y (size_of t)
+rounds_next s t r q x some e all here y h l =
+    elim (bool_cases (nat_lt y x)) [
+      | inl u ↦ let g : x - 1 ≡ y = before_last x y some h u in rw (← g) here
+      | inr u ↦ let g : x ≤ y = grind (arith, nat_tests) in rw e (all y g l)
+    ]
+  where
+    before_last : (x y : ℕ) → 0 < x → x - 1 ≤ y → nat_lt y x ≡ true → x - 1 ≡ y
+    before_last x y some h u = let g : y < x = grind (arith, nat_tests) in omega arith
+
+-- each pair that is related lies within
+pub related_within : (r : Pairs) (x y : ℕ) → related r x y ≡ true → (x < r.size) × (y < r.size)
+related_within r x y e =
+    let p = and_true (nat_lt x r.size && nat_lt y r.size) (slice_index_or r.pairs (x * r.size + y) false) e in
+    let q = and_true (nat_lt x r.size) (nat_lt y r.size) p.0 in
+    let a = q.0 in
+    let b = q.1 in
+    (grind (arith, nat_tests), grind (arith, nat_tests))
+
+-- where all that are related are simulated, the relation is a simulation
+pub simulation_from : (s : Diagrams) (t : Table) (r : Pairs) → r.size ≡ size_of t → ((x : ℕ) → x < size_of t → AreSimulated s t (related r) x (size_of t)) → IsSimulation s t (related r)
+simulation_from s t r e all =
+    let each : (x y : ℕ) → related r x y ≡ true → IsSimulated s t (related r) x y =
+    λ x y h. let w = related_within r x y h in all x (rw (← e) w.0) y (rw (← e) w.1) h in
+    record { marks = λ x y h. (each x y h).marks; rows = λ x y h. (each x y h).rows }
+
+-- one of two holds
+pub or_right : (b c : Bool) → c ≡ true → (b || c) ≡ true
+or_right true c e = refl
+or_right false c e = e
+
+-- a simulation with each location beside itself is one
+pub simulation_or_same : (s : Diagrams) (t : Table) (R : ℕ → ℕ → Bool) → IsSimulation s t R → IsSimulation s t (or_same R)
+simulation_or_same s t R i = record {
+  marks = λ x y e h.
+      elim (bool_cases (x == y)) [
+        | inl u ↦ let g : x ≡ y = eqb_true x y u in rw (← g) h
+        | inr u ↦ i.marks x y (rw u at e) h
+      ];
+  rows = λ x y e a.
+      elim (bool_cases (x == y)) [
+        | inl u ↦ let g : x ≡ y = eqb_true x y u in rw (g, eq-eqb (eval s (row_of t y) a) (eval s (row_of t y) a) refl) refl
+        | inr u ↦ or_right _ _ (i.rows x y (rw u at e) a)
+      ];
+}
+
+-- a location that does not accept keeps all from accepting
+one_lacks : (s : Diagrams) (t : Table) (w : List ℕ) (x : ℕ) (list : List ℕ) (k : ℕ) → k < length list → slice_index_or list k x ≡ x → accepts_from s t x w ≡ false → all_accept s t w list ≡ false
+one_lacks s t w x [] k h e n = absurd (omega arith)
+one_lacks s t w x (y ∷ ys) zero h e n = rw (e, n) refl
+one_lacks s t w x (y ∷ ys) (suc k) h e n = rw (one_lacks s t w x ys k (omega arith) e n) (and_false (accepts_from s t y w))
+  where
+    and_false : (b : Bool) → (b && false) ≡ false
+    and_false true = refl
+    and_false false = refl
+
+-- a location accepts what all of some that simulate it accept, itself among them
+wider_among : (s : Diagrams) (t : Table) (R : ℕ → ℕ → Bool) → IsSimulation s t R → (x : ℕ) (list : List ℕ) → AllSimulate R x list → Contains list x → (w : List ℕ) → all_accept s t w list ≡ accepts_from s t x w
+wider_among s t R i x list all own w =
+    elim (bool_cases (accepts_from s t x w)) [
+      | inl e ↦ rw e (all_simulate s t R i x list all w e)
+      | inr e ↦ rw e (one_lacks s t w x list own.0 own.1 own.2 e)
+    ]
+
+-- locations that simulate one, itself among them
+pub simulators_wider : (s : Diagrams) (t : Table) (R : ℕ → ℕ → Bool) (size x : ℕ) (list : List ℕ) → size ≡ size_of t → IsSimulation s t R → AreSimulators R size x list → IsWiderAt s t x list
+simulators_wider s t R size x list e i a = record {
+  within = rw (← e) a.within;
+  same = λ w. wider_among s t (or_same R) (simulation_or_same s t R i) x list a.each a.itself w;
+}
+
+pub simulators_wider_ok : {X E : Type 0} (r : Result X E) (view : X → List ℕ) (s : Diagrams) (t : Table) (R : ℕ → ℕ → Bool) (size x : ℕ) → size ≡ size_of t → IsSimulation s t R
+    → IfOk r (λ list. AreSimulators R size x (view list)) → IfOk r (λ list. IsWiderAt s t x (view list))
+simulators_wider_ok r view s t R size x e i =
+    IfOk-weaker r (λ list. AreSimulators R size x (view list)) (λ list. IsWiderAt s t x (view list)) (λ list a. simulators_wider s t R size x (view list) e i a)
+
+-- a location itself alone
+pub alone_wider : (s : Diagrams) (t : Table) (at : ℕ) (list : List ℕ) → at < size_of t → list ≡ at ∷ [] → IsWiderAt s t at list
+alone_wider s t at list h e = rw e (record { within = (h, tt); same = λ w. and_one (accepts_from s t at w) })
+  where
+    and_one : (b : Bool) → (b && true) ≡ b
+    and_one true = refl
+    and_one false = refl
+
+-- nothing is asked where every word is accepted
+pub none_wider : (s : Diagrams) (t : Table) (at : ℕ) (list : List ℕ) → list ≡ [] → AcceptsAll s t at → IsWiderAt s t at list
+none_wider s t at list e all = rw e (record { within = tt; same = λ w. sym (all w) })
+
+-- a location with the mark 1 that leads to itself accepts every word
+pub accepts_all_at : (s : Diagrams) (t : Table) (at : ℕ) → top_of s (row_of t at) ≡ Some (Terminal at) → (mark_of t at == 1) ≡ true → AcceptsAll s t at
+accepts_all_at s t at e m [] = m
+accepts_all_at s t at e m (letter ∷ w) =
+    let to : next_of s t at letter ≡ at = eval-terminal s (row_of t at) at e (letter_truth s.props letter) in
+    ap (λ x. accepts_from s t x w) to ∙ accepts_all_at s t at e m w
+
+-- lists that are wider at each location are wider
+pub wider_each : (s : Diagrams) (t : Table) (lists : List (List ℕ)) → ((at : ℕ) → at < size_of t → IsWiderAt s t at (wider_of lists at)) → IsWider s t (wider_of lists)
+wider_each s t lists each = record { within = λ at h. (each at h).within; same = λ at w h. (each at h).same w }
+
+-- one list more
+pub lists_next : {X : Type 0} (view : X → List ℕ) (P : ℕ → List ℕ → Type 0) (lists : List X) (count : ℕ) (x : X) → length lists ≡ count
+    → ((k : ℕ) → k < count → P k (wider_of (map view lists) k)) → P count (view x) → (k : ℕ) → k < count + 1 → P k (wider_of (map view (lists ++ x ∷ [])) k)
+lists_next view P lists count x e all here k h =
+    let l : length (map view lists) ≡ count = length-map lists view ∙ e in
+    rw (map-append view lists (x ∷ []))
+    (elim (bool_cases (nat_lt k count)) [
+      | inl u ↦
+          let q : k < count = grind (arith, nat_tests) in
+          rw (get_or_append_left (map view lists) (view x ∷ []) [] k (omega arith)) (all k q)
+      | inr u ↦
+          let q : count ≡ k = last_place k count h u in
+          rw (get_or_at (map view lists) (view x) [] [] k (omega arith), ← q) here
+    ])
+
+-- one location more in a list
+pub below_push : (size : ℕ) (list : List ℕ) (y : ℕ) → AllBelow size list → y < size → AllBelow size (list ++ y ∷ [])
+below_push size [] y b h = (h, tt)
+below_push size (x ∷ xs) y b h = (b.0, below_push size xs y b.1 h)
+
+pub simulate_push : (R : ℕ → ℕ → Bool) (x : ℕ) (list : List ℕ) (y : ℕ) → AllSimulate R x list → R x y ≡ true → AllSimulate R x (list ++ y ∷ [])
+simulate_push R x [] y a h = (h, tt)
+simulate_push R x (z ∷ zs) y a h = (a.0, simulate_push R x zs y a.1 h)
+
+-- a location that was passed over is not the one that is sought
+pub before_skipped : (x y : ℕ) → (y ≡ x → ⊥) → x < y + 1 → x < y
+before_skipped x y n h =
+    elim (bool_cases (nat_lt x y)) [
+      | inl u ↦ grind (arith, nat_tests)
+      | inr u ↦ let g : y ≡ x = last_place x y h u in absurd (n g)
+    ]
+
+-- the location itself is in the list once it was passed
+pub itself_push : (list : List ℕ) (x y : ℕ) → (x < y → Contains list x) → x < y + 1 → Contains (list ++ y ∷ []) x
+itself_push list x y own h =
+    elim (bool_cases (nat_lt x y)) [
+      | inl u ↦ let g : x < y = grind (arith, nat_tests) in Contains-append_left list (y ∷ []) x (own g)
+      | inr u ↦ let g : y ≡ x = last_place x y h u in rw g (Contains-push list x)
+    ]
+
+-- a location is the same as itself
+pub or_same_itself : (R : ℕ → ℕ → Bool) (x y : ℕ) → y ≡ x → or_same R x y ≡ true
+or_same_itself R x y e = rw (eq-eqb x y (sym e)) refl
