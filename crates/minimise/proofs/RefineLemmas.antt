@@ -1,19 +1,18 @@
 -- Rounds of refinement over a growing store, and what the last one gives.
-use Rattle.std.proofs.Common.{◌≡◌, ◌≢◌, ◌<◌, ◌≤◌, ◌+◌, ◌++◌, ◌==◌, ℕ, zero, suc, List, [], ◌∷◌, Option, Some, None, refl, sym, ◌∙◌, ap, subst, arith, inl, inr, length, length-append, map, replicate, Result, Ok, Err}
+use Rattle.std.proofs.Common.{◌≡◌, ◌<◌, ◌≤◌, ◌+◌, ◌++◌, ℕ, zero, suc, List, [], ◌∷◌, Option, Some, None, refl, sym, ◌∙◌, ap, subst, arith, inl, inr, length, length-append, map, replicate, Result, Ok, Err}
 use Rattle.std.specs.Prelude.{slice_get, slice_index, slice_index_or, IfOk}
-use Rattle.std.proofs.lemmas.Bool.{cases_eq}
 use Rattle.diagrams.specs.declared.top.Id.{Id}
 use Rattle.diagrams.specs.Eval.{Diagrams, eval, letter_truth}
 use Rattle.diagrams.specs.Live.{Keeps, Means}
 use Rattle.diagrams.proofs.Meaning.{eval-lasts, live_lasts, Keeps_trans}
-use Rattle.automata.specs.Table.{Table, size_of, mark_of, row_of, IsRow, Fits, next_of, moves_of}
+use Rattle.automata.specs.Table.{Table, size_of, mark_of, row_of, IsRow, Fits, moves_of}
 use Rattle.automata.proofs.Lasts.{fits_lasts, next_of-lasts}
 use Rattle.minimise.specs.declared.blocks.Key.{Key}
-use Rattle.minimise.specs.Blocks.{blocks_among, IsInOrder, IsPartition}
-use Rattle.minimise.specs.Rounds.{IsDivided, IsRelabelled, AreKeys, IsRefined}
+use Rattle.minimise.specs.Blocks.{IsPartition}
+use Rattle.minimise.specs.Rounds.{IsDivided, IsRelabelled, AreKeys, IsRefined, IsRefining}
 use Rattle.minimise.proofs.BlockLemmas.{within, member, finer_has_more}
 use Rattle.minimise.proofs.PartitionLemmas.{get-push_before, get-push_at, get-within}
-use Rattle.minimise.proofs.RoundLemmas.{IsRound, round_divides, round_is_finer, one_block_divides}
+use Rattle.minimise.proofs.RoundLemmas.{IsRound, round_divides, round_is_finer}
 use Rattle.minimise.proofs.RowLemmas.{AreRelabelled, GoesByRows, rows_make_round}
 use Rattle.minimise.proofs.QuotientLemmas.{IsQuotient, divided_is_least, quotient_marks}
 use Rattle.automata.proofs.FindingLemmas.{place_cases}
@@ -35,7 +34,7 @@ mark_in (Some k) = k.mark
 row-lasts : (s n : Diagrams) (t : Table) → Keeps s n → Fits s t → (at : ℕ) → at < size_of t → (a : ℕ → _) → eval n (row_of t at) a ≡ eval s (row_of t at) a
 row-lasts s n t k f at h a = eval-lasts s n k.was k.now k.extends (row_of t at) (f at h).live a
 
-round_lasts : (s n : Diagrams) (t : Table) (old new : ℕ → ℕ) → Keeps s n → Fits s t → IsRound n.props (moves_of n t) old new → IsRound s.props (moves_of s t) old new
+pub round_lasts : (s n : Diagrams) (t : Table) (old new : ℕ → ℕ) → Keeps s n → Fits s t → IsRound n.props (moves_of n t) old new → IsRound s.props (moves_of s t) old new
 round_lasts s n t old new k f r = record {
   mark = r.mark;
   next = λ i j h l e a o.
@@ -94,38 +93,6 @@ keys_back s m n t blocks keys count few k f a = record {
       (x.0, x.1, record { live = x.2.live; value = λ b. x.2.value b ∙ ap (slice_index blocks) (row-lasts s m t k f i (omega (arith, h, few)) b) });
 }
 
--- what holds before each round
-pub record IsRefining (s n : Diagrams) (t : Table) (blocks : List ℕ) (count : ℕ) : Type 0 where
-  pub keeps : Keeps s n
-  pub size : length blocks ≡ size_of t
-  pub order : IsInOrder (slice_index blocks) (size_of t)
-  pub number : blocks_among (slice_index blocks) (size_of t) ≡ count
-  pub rounds : ℕ
-  pub divided : IsDivided s.props (moves_of s t) rounds (slice_index blocks)
-
--- one block alone
-among_one : (f : ℕ → ℕ) (n : ℕ) → ((i : ℕ) → i < suc n → f i ≡ 0) → blocks_among f (suc n) ≡ 1
-among_one f zero e = rw (e 0 (omega arith)) refl
-among_one f (suc n) e =
-    let r = among_one f n (λ i h. e i (omega (arith, h))) in
-    let q = e (suc n) (omega arith) in
-    rw (r, q) refl
-
-pub refining_begins : (s n : Diagrams) (t : Table) (blocks : List ℕ) → Keeps s n → 0 < size_of t → length blocks ≡ size_of t
-    → ((i : ℕ) → i < size_of t → slice_index blocks i ≡ 0) → IsRefining s n t blocks 1
-refining_begins s n t blocks k some l zeros = record {
-  keeps = k;
-  size = l;
-  order = λ i h. rw (zeros i h) (omega arith);
-  number = one (size_of t) some zeros;
-  rounds = 0;
-  divided = one_block_divides s.props (moves_of s t) (slice_index blocks) (λ i j h x. zeros i h ∙ sym (zeros j x));
-}
-  where
-    one : (size : ℕ) → 0 < size → ((i : ℕ) → i < size → slice_index blocks i ≡ 0) → blocks_among (slice_index blocks) size ≡ 1
-    one zero h z = absurd (omega (arith, h))
-    one (suc m) h z = among_one (slice_index blocks) m z
-
 module _ (s m n : Diagrams) (t : Table) (blocks : List ℕ) (count : ℕ) (keys : List Key) (next : List ℕ) (kinds : List Key)
     (first : t.first < size_of t) (f : Fits s t) (r : IsRefining s m t blocks count) (k : Keeps m n) (a : AreKeys m n t blocks keys (size_of t))
     (p : IsPartition keys next kinds (size_of t)) where
@@ -171,6 +138,21 @@ module _ (s m n : Diagrams) (t : Table) (blocks : List ℕ) (count : ℕ) (keys 
     };
     partition = p;
   }
+
+-- the first blocks numbered in the order of their first members
+pub refining_from : (s m n : Diagrams) (t : Table) (blocks : List ℕ) (rounds : ℕ) (keys : List Key) (next : List ℕ) (kinds : List Key) → t.first < size_of t → Fits s t → Keeps s m → Keeps m n
+    → IsDivided s.props (moves_of s t) rounds (slice_index blocks) → AreKeys m n t blocks keys (size_of t) → IsPartition keys next kinds (size_of t) → IsRefining s n t next (length kinds)
+refining_from s m n t blocks rounds keys next kinds first f k j d a p =
+    let grown = Keeps_trans s m n k j in
+    record {
+      keeps = grown;
+      size = p.size;
+      order = p.order;
+      number = p.number;
+      rounds = suc rounds;
+      divided = round_divides s.props (moves_of s t) rounds (slice_index blocks) (slice_index next) (fits_closed s t first f) d
+          (round_made s n t blocks keys next kinds grown f (keys_back s m n t blocks keys (size_of t) (omega arith) k f a) p);
+    }
 
 -- reading what is made of keys
 mark-map : (ks : List Key) (i : ℕ) (k : Key) → slice_get ks i ≡ Some k → slice_index (map (λ x. x.mark) ks) i ≡ k.mark

@@ -1,8 +1,7 @@
 -- Rounds of refinement (Moore 1956), and blocks that are stable.
-use Rattle.std.proofs.Common.{◌≡◌, ◌≢◌, ◌<◌, ◌≤◌, ◌^◌, ◌⊎◌, ℕ, suc, [], ◌∷◌, sym, ◌∙◌, arith, length, inl, inr}
+use Rattle.std.proofs.Common.{◌≡◌, ◌≢◌, ◌<◌, ◌^◌, ◌⊎◌, ℕ, suc, [], ◌∷◌, arith, inl, inr}
 use Rattle.std.proofs.lemmas.Bool.{cases_eq}
-use Rattle.forms.specs.Word.{Word, IsOver}
-use Rattle.automata.specs.Moves.{Moves, mark_after, IsClosed}
+use Rattle.automata.specs.Moves.{Moves, IsClosed}
 use Rattle.automata.proofs.Words.{over-nil, over-head, over-tail, over-cons}
 use Rattle.minimise.specs.Rounds.{AgreeWithin, IsDivided}
 use Rattle.minimise.proofs.BlockLemmas.{IsFiner}

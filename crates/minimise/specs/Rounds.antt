@@ -3,11 +3,11 @@ use Rattle.std.specs.Prelude.{◌≡◌, ◌≢◌, ◌<◌, ℕ, List, length, 
 use Rattle.forms.specs.Word.{Word, IsOver}
 use Rattle.diagrams.specs.declared.top.Id.{Id}
 use Rattle.diagrams.specs.Eval.{Diagrams, eval}
-use Rattle.diagrams.specs.Live.{Means}
+use Rattle.diagrams.specs.Live.{Keeps, Means}
 use Rattle.automata.specs.Moves.{Moves, mark_after}
 use Rattle.automata.specs.Table.{Table, size_of, mark_of, row_of, moves_of}
 use Rattle.minimise.specs.declared.blocks.Key.{Key}
-use Rattle.minimise.specs.Blocks.{IsPartition}
+use Rattle.minimise.specs.Blocks.{blocks_among, IsInOrder, IsPartition}
 
 -- both have one mark after each word of fewer than k letters
 abbrev pub AgreeWithin : ℕ → Moves → ℕ → ℕ → ℕ → Type 0
@@ -41,3 +41,12 @@ pub record IsRefined (s n : Diagrams) (t : Table) (blocks : List ℕ) (kinds : L
   pub divided : IsDivided s.props (moves_of s t) rounds (slice_index blocks)
   pub relabelled : AreKeys s n t blocks keys (size_of t)
   pub partition : IsPartition keys blocks kinds (size_of t)
+
+-- what holds before each round
+pub record IsRefining (s n : Diagrams) (t : Table) (blocks : List ℕ) (count : ℕ) : Type 0 where
+  pub keeps : Keeps s n
+  pub size : length blocks ≡ size_of t
+  pub order : IsInOrder (slice_index blocks) (size_of t)
+  pub number : blocks_among (slice_index blocks) (size_of t) ≡ count
+  pub rounds : ℕ
+  pub divided : IsDivided s.props (moves_of s t) rounds (slice_index blocks)

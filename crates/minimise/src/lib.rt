@@ -5,11 +5,17 @@
 #![tactic(auto)]
 
 mod blocks;
+mod divisions;
 mod laws;
 mod least;
+mod relabelling;
 mod rounds;
+mod targets;
 #[cfg(test)]
 mod tests;
 
+pub use divisions::{block_rows, divide_by_rows, renewed_rows};
 pub use laws::laws_of_least_automata;
 pub use least::minimise;
+pub use relabelling::relabel;
+pub use targets::Targets;

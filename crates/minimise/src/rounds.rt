@@ -1,13 +1,17 @@
 //! Rounds of refinement.
-ghost use Rattle.std.specs.Prelude.{◌≡◌, length, replicate, IfOk};
+ghost use Rattle.std.specs.Prelude.{◌≡◌, ◌<◌, ◌^◌, length, replicate, IfOk};
 ghost use Rattle.diagrams.specs.Live.{Keeps};
 ghost use Rattle.automata.specs.Table.{size_of, Fits};
-ghost use Rattle.minimise.specs.Rounds.{AreKeys, IsRefined};
+ghost use Rattle.minimise.specs.Divisions.{IsDividedInRounds};
+ghost use Rattle.minimise.specs.Rounds.{AreKeys, IsRefined, IsRefining};
 
 use crate::blocks::{Key, Partition, divide};
+use crate::divisions::{block_rows, divide_by_rows, renewed_rows};
+use crate::relabelling::relabel;
+use crate::targets::Targets;
 use automata::Automaton;
 use bes_io::Memory;
-use diagrams::Store;
+use diagrams::{Memo, Store};
 use std::alloc::Global;
 
 /// The keys of all locations, by the blocks so far.
@@ -20,12 +24,14 @@ fn keys_of(
     requires fits { Fits store.old automaton.now }
     requires blocks { length blocks.now ≡ size_of automaton.now }
     ensures keeps { Keeps store.old store.new }
+    ensures few { IfOk result (λ keys. length keys.items < 2 ^ 32) }
     ensures keys { IfOk result (λ keys. AreKeys store.old store.new automaton.now blocks.now keys.items (size_of automaton.now)) }
 {
     let _ = store.look(automaton.row(automaton.first()));
+    let mut memo = Memo::new(alloc);
     let mut keys = Vec::new(alloc);
     for at in 0..automaton.size() {
-        let row = store.map_terminals(automaton.row(at), blocks)?;
+        let row = relabel(store, &mut memo, automaton.row(at), blocks)?;
         let mark = automaton.mark(at);
         keys.push(Key { mark, row })?;
     }
@@ -39,6 +45,39 @@ fn one_block(alloc: Global, size: u32) -> Result<Vec<u32>, Memory>
     Ok(vec![in alloc; 0; size as usize]?)
 }
 
+/// The blocks after rounds of division: each named by its first location, and divided until a round changes nothing.
+fn settle(alloc: Global, store: &mut Store, automaton: &Automaton) -> Result<Vec<u32>, Memory>
+    requires fits { Fits store.old automaton.now }
+    ensures keeps { Keeps store.old store.new }
+    ensures divided { IfOk result (λ blocks. IsDividedInRounds store.old automaton.now blocks.items) }
+{
+    let _ = store.look(automaton.row(automaton.first()));
+    let targets = Targets::new(alloc, store, automaton)?;
+    let mut blocks = one_block(alloc, automaton.size())?;
+    let mut rows = block_rows(alloc, store, automaton, &blocks)?;
+    for _ in 0..automaton.size() {
+        let next = divide_by_rows(alloc, automaton, &rows)?;
+        if next.as_slice() == blocks.as_slice() {
+            return Ok(blocks);
+        }
+        rows = renewed_rows(alloc, store, automaton, &targets, &blocks, &next, &rows)?;
+        blocks = next;
+    }
+    Ok(blocks)
+}
+
+/// The blocks to begin with: those after rounds of division, numbered in the order of their first members.
+fn begin(alloc: Global, store: &mut Store, automaton: &Automaton) -> Result<Partition, Memory>
+    requires fits { Fits store.old automaton.now }
+    ensures keeps { Keeps store.old store.new }
+    ensures refining { IfOk result (λ made. IsRefining store.old store.new automaton.now made.blocks.items (length made.kinds.keys)) }
+{
+    let _ = store.look(automaton.row(automaton.first()));
+    let settled = settle(alloc, store, automaton)?;
+    let keys = keys_of(alloc, store, automaton, &settled)?;
+    divide(alloc, &keys)
+}
+
 /// The coarsest blocks whose locations have one mark and go to one block by each letter.
 pub(crate) fn refine(
     alloc: Global,
@@ -50,8 +89,9 @@ pub(crate) fn refine(
     ensures refined { IfOk result (λ made. IsRefined store.old store.new automaton.now made.blocks.items made.kinds.keys) }
 {
     let _ = store.look(automaton.row(automaton.first()));
-    let mut blocks = one_block(alloc, automaton.size())?;
-    let mut count = 1;
+    let begun = begin(alloc, store, automaton)?;
+    let mut count = begun.kinds.len();
+    let mut blocks = begun.blocks;
     'round: loop {
         let keys = keys_of(alloc, store, automaton, &blocks)?;
         let next = divide(alloc, &keys)?;

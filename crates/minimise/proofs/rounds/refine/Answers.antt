@@ -1,31 +1,20 @@
-use Rattle.std.proofs.Common.{◌≡◌, ◌<◌, ℕ, arith, sym, ◌∙◌, ap, subst, length, replicate}
-use Rattle.std.specs.Prelude.{slice_index}
-use Rattle.diagrams.proofs.Meaning.{Keeps_refl}
+use Rattle.std.proofs.Common.{◌≡◌, ◌<◌, arith, sym, ◌∙◌, subst, length}
 use Rattle.automata.specs.Table.{size_of}
 use Rattle.automata.proofs.Lasts.{fits_lasts}
 use Rattle.minimise.specs.Blocks.{IsPartition}
 use Rattle.minimise.specs.Rounds.{AreKeys}
 use Rattle.minimise.proofs.PartitionLemmas.{partition_few}
-use Rattle.minimise.proofs.RefineLemmas.{replicate-zero, length-zeros, refining_begins, no_coarser, refining_more, refining_ends}
+use Rattle.minimise.proofs.RefineLemmas.{no_coarser, refining_more, refining_ends}
 use Rattle.minimise.proofs.rounds.refine.Goals as goal
 
 pub round-init : goal.round-init
-round-init c =
-    let s = c.args.store.now in
-    let t = c.args.automaton.now in
-    let blocks = c.in_ok-blocks.blocks.items in
-    let zeros = c.in_ok-blocks.ensures in
-    let some : 0 < size_of t = omega (arith, c.first.ensures.within) in
-    let long : length blocks ≡ size_of t = ap length zeros ∙ length-zeros c.size.result ∙ c.size.ensures.size in
-    refining_begins s s t blocks (Keeps_refl s c.look.ensures.canonical) some long (λ i h. ap (λ xs. slice_index xs i) zeros ∙ replicate-zero c.size.result i)
+round-init c = rw (c.len-count.ensures.len) c.in_ok-begun.ensures.refining
 
 pub keys_of-requires-clause-fits : goal.keys_of-requires-clause-fits
 keys_of-requires-clause-fits c = fits_lasts c.args.store.now c.round.store c.round.invariant.keeps c.args.automaton.now c.requires.fits
 
 pub divide-requires : goal.divide-requires
-divide-requires c =
-    let long : length c.deref-in-round.result.now ≡ size_of c.args.automaton.now = ap length c.deref-in-round.ensures.value ∙ c.in_ok-keys.ensures.keys.size in
-    omega (arith, long, c.size.ensures.size, c.size.ensures.few)
+divide-requires c = rw (c.deref-in-round.ensures.value) c.in_ok-keys.ensures.few
 
 pub returns-then-len-count-clause-refined : goal.returns-then-len-count-clause-refined
 returns-then-len-count-clause-refined c =
@@ -59,7 +48,7 @@ round-smaller c =
     let more = (no_coarser s m n t blocks c.round.count keys next kinds first c.requires.fits c.round.invariant c.in_ok-keys.ensures.keeps a p).0 in
     let few = partition_few keys next kinds (size_of t) p in
     let long : c.len.result ≡ length kinds = c.len.ensures.len in
-    let now : c.len-count.result ≡ length kinds = c.len-count.ensures.len in
+    let now : c.len-count-in-round.result ≡ length kinds = c.len-count-in-round.ensures.len in
     omega (arith, more, few, long, now, c.if-len-count.false)
 
 pub round-preserved : goal.round-preserved
@@ -75,4 +64,4 @@ round-preserved c =
     let first : t.first < size_of t = subst (λ z. z < size_of t) c.first.ensures.first c.first.ensures.within in
     let a = subst (λ bs. AreKeys m n t bs keys (size_of t)) c.deref.ensures.value c.in_ok-keys.ensures.keys in
     let p = subst (λ k. IsPartition keys next kinds k) c.in_ok-keys.ensures.keys.size (subst (λ ks. IsPartition ks next kinds (length ks)) c.deref-in-round.ensures.value c.in_ok-next.ensures) in
-    rw (c.len-count.ensures.len) (refining_more s m n t blocks c.round.count keys next kinds first c.requires.fits c.round.invariant c.in_ok-keys.ensures.keeps a p)
+    rw (c.len-count-in-round.ensures.len) (refining_more s m n t blocks c.round.count keys next kinds first c.requires.fits c.round.invariant c.in_ok-keys.ensures.keeps a p)

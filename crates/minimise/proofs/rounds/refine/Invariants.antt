@@ -1,6 +1,6 @@
 use Rattle.std.proofs.Common.{◌-◌}
 use Rattle.automata.specs.Table.{size_of}
-use Rattle.minimise.proofs.RefineLemmas.{IsRefining}
+use Rattle.minimise.specs.Rounds.{IsRefining}
 use Rattle.minimise.proofs.rounds.refine.Given as goal
 
 abbrev pub invariant-round : goal.invariant-round

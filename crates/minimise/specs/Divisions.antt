@@ -1,0 +1,46 @@
+-- Blocks of locations with one mark and one relabelled row, each named by its first location, and the locations to which rows lead.
+use Rattle.std.specs.Prelude.{◌≡◌, ◌<◌, ◌≤◌, ℕ, List, [], Contains, length, slice_index, slice_index_or}
+use Rattle.diagrams.specs.declared.top.Id.{Id}
+use Rattle.diagrams.specs.Tree.{Assignment}
+use Rattle.diagrams.specs.Eval.{Diagrams, eval}
+use Rattle.automata.specs.Table.{Table, size_of, mark_of, row_of, moves_of}
+use Rattle.minimise.specs.Rounds.{IsDivided, IsRelabelled}
+
+-- the id at a place of a list
+abbrev pub id_at : List Id → ℕ → Id
+id_at ids k = slice_index_or ids k (record { 0 = 0 })
+
+-- in n the rows that so many locations have in s, with blocks in place of locations
+pub record AreBlockRows (s n : Diagrams) (t : Table) (blocks : List ℕ) (rows : List Id) (count : ℕ) : Type 0 where
+  pub size : length rows ≡ count
+  pub row : (at : ℕ) → at < count → IsRelabelled s n t blocks at (id_at rows at)
+
+-- two locations have one mark, and one row in a list
+abbrev pub HaveOneKey : Table → List Id → ℕ → ℕ → Type 0
+HaveOneKey t rows i j = (mark_of t i ≡ mark_of t j) × (id_at rows i ≡ id_at rows j)
+
+-- locations with one mark and one row are in one block, whose name is its first location
+pub record IsDivision (t : Table) (rows : List Id) (blocks : List ℕ) : Type 0 where
+  pub size : length blocks ≡ size_of t
+  pub low : (at : ℕ) → at < size_of t → slice_index blocks at ≤ at
+  pub key : (at : ℕ) → at < size_of t → HaveOneKey t rows (slice_index blocks at) at
+  pub one : (i j : ℕ) → i < size_of t → j < size_of t → HaveOneKey t rows i j → slice_index blocks i ≡ slice_index blocks j
+
+-- the list has each location to which f leads, and locations before size alone
+pub record AreTargets (s : Diagrams) (size : ℕ) (f : Id) (xs : List ℕ) : Type 0 where
+  pub all : (a : Assignment) → Contains xs (eval s f a)
+  pub within : (k : ℕ) → k < length xs → slice_index xs k < size
+
+-- the list of one location
+abbrev pub targets_at : List (List ℕ) → ℕ → List ℕ
+targets_at lists at = slice_index_or lists at []
+
+-- a list for each location
+abbrev pub HaveTargets : Diagrams → Table → List (List ℕ) → Type 0
+HaveTargets s t lists = (at : ℕ) → at < size_of t → AreTargets s (size_of t) (row_of t at) (targets_at lists at)
+
+-- the blocks divide the locations as words of fewer than some number of letters do
+pub record IsDividedInRounds (s : Diagrams) (t : Table) (blocks : List ℕ) : Type 0 where
+  pub rounds : ℕ
+  pub size : length blocks ≡ size_of t
+  pub divided : IsDivided s.props (moves_of s t) rounds (slice_index blocks)
