@@ -1,0 +1,12 @@
+pub mod Making
+pub mod Joining
+pub mod Growing
+pub mod Resting
+pub mod Laws
+pub mod Leads
+pub mod Conditions
+pub mod TestLists
+pub mod Arms
+pub mod Earlier
+pub mod Compiled
+pub mod TestLemmas

@@ -1,0 +1,5 @@
+use Rattle.path_programs.proofs.Making.{one_both}
+use Rattle.path_programs.proofs.made.both.Goals as goal
+
+pub returns-clause-id : goal.returns-clause-id
+returns-clause-id c = one_both c.combine.result c.args.store.now c.combine.new.self c.args.f c.args.g c.requires.f c.requires.g c.combine.ensures.id

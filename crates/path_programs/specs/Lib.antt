@@ -1,0 +1,4 @@
+pub mod Tests
+pub mod Made
+pub mod Growth
+pub mod Lead
