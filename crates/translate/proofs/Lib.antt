@@ -1,0 +1,9 @@
+pub mod LeastLemmas
+pub mod StandingLemmas
+pub mod JoinLemmas
+pub mod OwnLemmas
+pub mod OperatorLemmas
+pub mod TallyLemmas
+pub mod CountLemmas
+pub mod MeantLemmas
+pub mod PartLemmas

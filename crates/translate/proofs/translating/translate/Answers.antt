@@ -1,0 +1,89 @@
+use Rattle.std.proofs.Common.{◌∙◌}
+use Rattle.std.proofs.lemmas.Result.{err_from_is_err_and}
+use Rattle.forms.specs.Tree.{tree}
+use Rattle.forms.specs.Parts.{parts}
+use Rattle.forms.specs.Satisfaction.{meets}
+use Rattle.automata.specs.Table.{size_of}
+use Rattle.translate.proofs.CountLemmas.{counts_of, counts_within, adds_from, first_over_from, whole_over}
+use Rattle.translate.proofs.MeantLemmas.{whole_made, class_count, least_for, only_least, smallest}
+use Rattle.translate.proofs.translating.translate.Goals as goal
+
+pub returns-in_err-automaton-clause-too_many : goal.returns-in_err-automaton-clause-too_many
+returns-in_err-automaton-clause-too_many c =
+    let r = err_from_is_err_and c.from_residual-in_err-automaton.result c.from_residual-in_err-automaton.ensures.1 in
+    rw (r.1, r.2)
+    (first_over_from c.args.store.now.props c.terminal.new.self.props c.args.limit (tree c.args.form.now) c.new-counts.result _
+    c.in_ok-terminal.ensures.keeps.extends.props c.new-counts.ensures c.in_err-automaton.ensures.too_many)
+
+pub returns-in_err-admit-clause-too_many : goal.returns-in_err-admit-clause-too_many
+returns-in_err-admit-clause-too_many c =
+    let p = c.args.store.now.props in
+    let f = tree c.args.form.now in
+    let kp = c.in_ok-automaton.ensures.keeps.extends.props ∙ c.in_ok-terminal.ensures.keeps.extends.props in
+    let kw = c.in_ok-whole.ensures.keeps.extends.props ∙ kp in
+    let s = c.nonempty.new.store in
+    let t = c.in_ok-whole.whole in
+    let least = whole_made c.part.new.store s c.in_ok-automaton.automaton t f p kp c.in_ok-automaton.ensures.least c.in_ok-whole.ensures.least in
+    let r = err_from_is_err_and c.from_residual-in_err-admit.result c.from_residual-in_err-admit.ensures.1 in
+    rw (r.1, r.2)
+    (whole_over p c.args.limit f c.part.new.counts c.size.result (size_of t) _
+    (adds_from p c.terminal.new.self.props c.args.limit (parts f) c.new-counts.result c.part.new.counts c.in_ok-terminal.ensures.keeps.extends.props c.new-counts.ensures c.in_ok-automaton.ensures.counts)
+    (class_count s t (λ w. meets p f w) p kw least) c.size.ensures.size c.in_err-admit.ensures.too_many)
+
+pub returns-clause-counts : goal.returns-clause-counts
+returns-clause-counts c =
+    let p = c.args.store.now.props in
+    let f = tree c.args.form.now in
+    counts_of p c.args.limit f c.part.new.counts
+    (adds_from p c.terminal.new.self.props c.args.limit (parts f) c.new-counts.result c.part.new.counts c.in_ok-terminal.ensures.keeps.extends.props c.new-counts.ensures c.in_ok-automaton.ensures.counts)
+
+pub returns-clause-within : goal.returns-clause-within
+returns-clause-within c =
+    let p = c.args.store.now.props in
+    let f = tree c.args.form.now in
+    counts_within p c.args.limit (parts f) c.part.new.counts
+    (adds_from p c.terminal.new.self.props c.args.limit (parts f) c.new-counts.result c.part.new.counts c.in_ok-terminal.ensures.keeps.extends.props c.new-counts.ensures c.in_ok-automaton.ensures.counts)
+
+pub returns-clause-size : goal.returns-clause-size
+returns-clause-size c =
+    let p = c.args.store.now.props in
+    let f = tree c.args.form.now in
+    let kp = c.in_ok-automaton.ensures.keeps.extends.props ∙ c.in_ok-terminal.ensures.keeps.extends.props in
+    let kw = c.in_ok-whole.ensures.keeps.extends.props ∙ kp in
+    let s = c.nonempty.new.store in
+    let t = c.in_ok-whole.whole in
+    let least = whole_made c.part.new.store s c.in_ok-automaton.automaton t f p kp c.in_ok-automaton.ensures.least c.in_ok-whole.ensures.least in
+    class_count s t (λ w. meets p f w) p kw least
+
+pub returns-clause-least : goal.returns-clause-least
+returns-clause-least c =
+    let p = c.args.store.now.props in
+    let f = tree c.args.form.now in
+    let kp = c.in_ok-automaton.ensures.keeps.extends.props ∙ c.in_ok-terminal.ensures.keeps.extends.props in
+    let kw = c.in_ok-whole.ensures.keeps.extends.props ∙ kp in
+    let s = c.nonempty.new.store in
+    let t = c.in_ok-whole.whole in
+    let least = whole_made c.part.new.store s c.in_ok-automaton.automaton t f p kp c.in_ok-automaton.ensures.least c.in_ok-whole.ensures.least in
+    least_for s t (λ w. meets p f w) p kw least
+
+pub returns-clause-same_traces : goal.returns-clause-same_traces
+returns-clause-same_traces c =
+    let p = c.args.store.now.props in
+    let f = tree c.args.form.now in
+    let kp = c.in_ok-automaton.ensures.keeps.extends.props ∙ c.in_ok-terminal.ensures.keeps.extends.props in
+    let kw = c.in_ok-whole.ensures.keeps.extends.props ∙ kp in
+    let s = c.nonempty.new.store in
+    let t = c.in_ok-whole.whole in
+    let least = whole_made c.part.new.store s c.in_ok-automaton.automaton t f p kp c.in_ok-automaton.ensures.least c.in_ok-whole.ensures.least in
+    only_least s t (λ w. meets p f w) p kw least
+
+pub returns-clause-smallest : goal.returns-clause-smallest
+returns-clause-smallest c =
+    let p = c.args.store.now.props in
+    let f = tree c.args.form.now in
+    let kp = c.in_ok-automaton.ensures.keeps.extends.props ∙ c.in_ok-terminal.ensures.keeps.extends.props in
+    let kw = c.in_ok-whole.ensures.keeps.extends.props ∙ kp in
+    let s = c.nonempty.new.store in
+    let t = c.in_ok-whole.whole in
+    let least = whole_made c.part.new.store s c.in_ok-automaton.automaton t f p kp c.in_ok-automaton.ensures.least c.in_ok-whole.ensures.least in
+    smallest s t (λ w. meets p f w) p kw least

@@ -1,0 +1,7 @@
+pub mod Exact
+pub mod Counting
+pub mod Joined
+pub mod Standing
+pub mod Operation
+pub mod Tests
+pub mod Tally

@@ -1,0 +1,65 @@
+//! The least automaton of a formula.
+ghost use Rattle.std.specs.Prelude.{◌≡◌, ℕ, ◌<◌, ◌≤◌, ◌^◌, All, IfOk, IfErr};
+ghost use Rattle.forms.specs.Tree.{tree, nodes};
+ghost use Rattle.forms.specs.Proper.{IsProper};
+ghost use Rattle.forms.specs.Satisfaction.{meets};
+ghost use Rattle.forms.specs.Word.{Word, Claim, IsOver};
+ghost use Rattle.forms.specs.Equivalence.{HasClassCount};
+ghost use Rattle.diagrams.specs.Live.{Keeps};
+ghost use Rattle.automata.specs.Moves.{Moves, IsClosed};
+ghost use Rattle.automata.specs.Table.{size_of, moves_of};
+ghost use Rattle.minimise.specs.Least.{IsLeastFor, Decides, AreTheSame};
+ghost use Rattle.translate.specs.Exact.{IsLeastOf};
+ghost use Rattle.translate.specs.Counting.{AreCounts, IfTooMany, IsFirstOver};
+
+use crate::counts::Counts;
+use crate::fault::TranslateFault;
+use crate::operators;
+use crate::parts::part;
+use automata::Automaton;
+use diagrams::Store;
+use forms::Form;
+use std::alloc::Global;
+
+/// A formula's automaton: it accepts the formula's traces, which are not empty.
+#[derive(Drop)]
+pub struct Translated {
+    /// The class count of each part, the operands before what they make.
+    pub counts: Counts,
+    pub whole: Automaton,
+}
+
+/// The least automaton of a formula's traces, with the class count of each part (Nerode 1958). Goes one level deeper
+/// for each level of the tree.
+pub fn translate(
+    alloc: Global,
+    store: &mut Store,
+    form: &Form,
+    limit: u32,
+) -> Result<Translated, TranslateFault>
+    requires proper { IsProper store.old.props (tree form.now) }
+    requires small { nodes (tree form.now) < 2 ^ 32 }
+    requires limit { 1 ≤ limit }
+    requires limit_small { limit ≤ 1024 }
+    ensures keeps { Keeps store.old store.new }
+    ensures counts { IfOk result (λ made. AreCounts store.old.props (tree form.now) made.counts) }
+    ensures within { IfOk result (λ made. All (λ count. count ≤ limit) made.counts) }
+    ensures whole { IfOk result (λ made. IsLeastOf store.new made.whole (λ w. meets store.old.props (tree form.now) w)) }
+    ensures least { IfOk result (λ made. IsLeastFor store.old.props (moves_of store.new made.whole) (λ w. meets store.old.props (tree form.now) w)) }
+    ensures whole_within { IfOk result (λ made. size_of made.whole ≤ limit) }
+    ensures size { IfOk result (λ made. HasClassCount store.old.props (λ w. meets store.old.props (tree form.now) w) (size_of made.whole)) }
+    ensures same_traces { IfOk result (λ made. (f : Claim)
+        → ((w : Word) → IsOver store.old.props w → f w ≡ meets store.old.props (tree form.now) w)
+        → (m : Moves) → IsLeastFor store.old.props m f → AreTheSame store.old.props m (moves_of store.new made.whole)) }
+    ensures smallest { IfOk result (λ made. (m : Moves) → IsClosed store.old.props m
+        → Decides store.old.props m (λ w. meets store.old.props (tree form.now) w) → size_of made.whole ≤ m.size) }
+    ensures too_many { IfErr result (λ fault. IfTooMany fault (IsFirstOver store.old.props (tree form.now) limit)) }
+{
+    // The parts need a canonical store, and any call of the store says that it is one.
+    let _ = store.terminal(0)?;
+    let mut counts = Counts::new(alloc);
+    let automaton = part(alloc, store, form, limit, &mut counts)?;
+    let whole = operators::nonempty(alloc, store, &automaton)?;
+    counts.admit(whole.size(), limit)?;
+    Ok(Translated { counts, whole })
+}
