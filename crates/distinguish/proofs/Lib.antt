@@ -1,0 +1,11 @@
+pub mod Transport
+pub mod Few
+pub mod Unique
+pub mod DifferenceLemmas
+pub mod ListLemmas
+pub mod ColumnLemmas
+pub mod WordLemmas
+pub mod RoundLemmas
+pub mod BeginLemmas
+pub mod StepLemmas
+pub mod NextLemmas

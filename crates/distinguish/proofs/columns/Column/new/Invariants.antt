@@ -1,0 +1,9 @@
+use Rattle.std.proofs.Common.{◌≡◌, ◌<◌, ℕ, length, slice_index}
+use Rattle.automata.specs.Table.{mark_of}
+use Rattle.distinguish.proofs.columns.Column.new.Given as goal
+
+abbrev pub invariant-loop-at : goal.invariant-loop-at
+invariant-loop-at l = record {
+  size : length l.marks.items ≡ l.at;
+  mark : (k : ℕ) → k < l.at → slice_index l.marks.items k ≡ mark_of l.automaton k;
+}

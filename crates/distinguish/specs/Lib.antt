@@ -1,0 +1,5 @@
+pub mod Telling
+pub mod Differences
+pub mod Columns
+pub mod Steps
+pub mod Rounds

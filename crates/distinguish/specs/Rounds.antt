@@ -1,0 +1,35 @@
+-- What is known after a round of division.
+use Rattle.std.specs.Prelude.{◌≡◌, ◌≢◌, ◌<◌, ◌≤◌, ◌^◌, ℕ, true, List, All, AllPairs, Any, length, slice_index}
+use Rattle.forms.specs.Word.{Word}
+use Rattle.forms.specs.Shortlex.{comes_before}
+use Rattle.automata.specs.Moves.{Moves, IsClosed}
+use Rattle.automata.specs.Table.{Table, size_of, mark_of}
+use Rattle.minimise.specs.Rounds.{IsDivided}
+use Rattle.distinguish.specs.Telling.{IsLeastDistinguishing, IsLeastForSome}
+use Rattle.distinguish.specs.Columns.{AreColumns}
+
+-- blocks that words of fewer than so many letters divide, those of the telling list among these in order, and the marks after them
+pub record IsDividedByWords (p : ℕ) (m : Moves) (blocks : List ℕ) (words : List Word) (columns : List (List ℕ)) : Type 0 where
+  pub closed : IsClosed p m
+  pub letters : ℕ
+  pub some : 0 < letters
+  pub size : length blocks ≡ m.size
+  pub low : (at : ℕ) → at < m.size → slice_index blocks at ≤ at
+  pub divided : IsDivided p m letters (slice_index blocks)
+  pub order : AllPairs (λ u v. comes_before u v ≡ true) words
+  pub needed : All (IsLeastForSome p m) words
+  pub short : All (λ w. length w < letters) words
+  pub whole : (i j : ℕ) → i < m.size → j < m.size → slice_index blocks i ≢ slice_index blocks j → Any (IsLeastDistinguishing p m i j) words
+  pub marks : AreColumns m words columns
+
+-- letters lead locations of one block to one block
+abbrev pub IsStable : ℕ → Moves → List ℕ → Type 0
+IsStable p m blocks = (i j a : ℕ) → i < m.size → j < m.size → a < 2 ^ p → slice_index blocks i ≡ slice_index blocks j
+    → slice_index blocks (m.next i a) ≡ slice_index blocks (m.next j a)
+
+-- locations with equal marks are in one block, whose name is its first location
+pub record IsByMarks (t : Table) (blocks : List ℕ) : Type 0 where
+  pub size : length blocks ≡ size_of t
+  pub low : (at : ℕ) → at < size_of t → slice_index blocks at ≤ at
+  pub mark : (at : ℕ) → at < size_of t → mark_of t (slice_index blocks at) ≡ mark_of t at
+  pub one : (i j : ℕ) → i < size_of t → j < size_of t → mark_of t i ≡ mark_of t j → slice_index blocks i ≡ slice_index blocks j
