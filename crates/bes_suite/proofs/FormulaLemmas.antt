@@ -1,13 +1,15 @@
 -- A text is one formula, or it is refused.
-use Rattle.std.proofs.Common.{◌≡◌, ℕ, false, List, [], Some, None, Ok, ap, sym, ◌∙◌}
+use Rattle.std.proofs.Common.{◌≡◌, ℕ, false, List, [], Ok, ap, refl}
 use Rattle.forms.specs.Tree.{Formula}
 use Rattle.form_reader.specs.declared.dialect.Dialect.{Dialect}
 use Rattle.form_reader.specs.declared.fault.FormFault.{FormFault}
+use Rattle.form_reader.specs.declared.fault.FormFault.TheVariants as form
+use Rattle.form_reader.specs.Blames.{Blames}
 use Rattle.form_reader.specs.Machine.{Due}
 use Rattle.form_reader.specs.Outcome.{outcome, stage_of}
 use Rattle.form_reader.specs.Spelling.{lexemes}
 use Rattle.form_reader.proofs.Outcomes.{outcome-only, outcome-first_fault, fault_of}
-use Rattle.bes_suite.specs.Judge.{IsFormula, IsRefused}
+use Rattle.bes_suite.specs.Formulas.{IsFormula, IsRefused, EndsAtFormula, fault_ending}
 
 reads : (dialect : Dialect) (text : List ℕ) (f : Formula) → IsFormula dialect text f → outcome false (stage_of [] 0 (Due [])) (lexemes dialect text) ≡ Ok f
 reads dialect text f a = outcome-only false [] (lexemes dialect text) f a
@@ -22,3 +24,14 @@ formula-or-fault dialect text f fault a b =
     let none = ap fault_of (reads dialect text f a) in
     let first = outcome-first_fault false (stage_of [] 0 (Due [])) (lexemes dialect text) tt in
     cc
+
+-- a refusal of the reader of formulas is one of the run
+pub ends-at-formula : (dialect : Dialect) (text : List ℕ) (fault : FormFault) → Blames fault (IsRefused dialect text fault) → EndsAtFormula dialect text (fault_ending fault)
+ends-at-formula dialect text (form.BadByte at) h = (form.BadByte at, refl, h)
+ends-at-formula dialect text (form.Unexpected at) h = (form.Unexpected at, refl, h)
+ends-at-formula dialect text form.Unfinished h = (form.Unfinished, refl, h)
+ends-at-formula dialect text (form.TooDeep at) h = (form.TooDeep at, refl, h)
+ends-at-formula dialect text (form.TooManyTokens at) h = (form.TooManyTokens at, refl, h)
+ends-at-formula dialect text (form.TooManyNames at) h = (form.TooManyNames at, refl, h)
+ends-at-formula dialect text (form.Undeclared at) h = (form.Undeclared at, refl, h)
+ends-at-formula dialect text form.Memory h = tt

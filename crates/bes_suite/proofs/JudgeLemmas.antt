@@ -1,37 +1,21 @@
 -- What `judge` says, by what its parts found.
-use Rattle.std.proofs.Common.{◌≡◌, ℕ, ◌∷◌, ◌⊎◌, inl, inr, List, [], length, sym, refl, ◌∙◌, ap, subst, Option, Some, None, Bool, true, false, Result, Ok, Err}
+use Rattle.std.proofs.Common.{◌≡◌, ℕ, ◌∷◌, inl, inr, List, [], length, sym, refl, subst, Option, Some, Bool, true, false, Ok, Err}
 use Rattle.bes_io.specs.Lines.{at_end, HasLines}
-use Rattle.bes_io.specs.Causes.{Rose}
 use Rattle.forms.specs.Tree.{Formula}
 use Rattle.forms.specs.Satisfaction.{meets as meets_trace}
 use Rattle.form_reader.specs.declared.dialect.Dialect.{Dialect}
-use Rattle.form_reader.specs.declared.fault.FormFault.{FormFault}
-use Rattle.form_reader.specs.declared.fault.FormFault.TheVariants as form
-use Rattle.form_reader.specs.Blames.{Blames}
 use Rattle.bes_suite.specs.declared.endings.Ending.{Ending}
 use Rattle.bes_suite.specs.declared.endings.Ending.TheVariants.{Positive, Negative, Refused, OutsideFault, NoMemory}
 use Rattle.bes_suite.specs.declared.endings.Refusal.{Refusal}
 use Rattle.bes_suite.specs.declared.endings.Refusal.TheVariants as refusal
-use Rattle.bes_suite.specs.Replies.{Reply, refusing}
+use Rattle.bes_suite.specs.Replies.{refusing}
 use Rattle.bes_suite.specs.Endings.{IsBeforeInput}
-use Rattle.bes_suite.specs.Traces.{most_input, AreEvents, trace_refusal}
+use Rattle.bes_suite.specs.Traces.{most_input, AreEvents}
 use Rattle.bes_suite.specs.Letters.{GivesTrace, HasTraceCause}
-use Rattle.bes_suite.specs.Judge.{JudgeAnswers, formula_refused, input_refused, no_event, judged, IsFormula, IsRefused, names_of, verdict, IsJudged, IsInputRefused, GivesVerdict, EndsAtFormula, fault_ending}
-use Rattle.bes_suite.specs.Answers.{Contents}
-use Rattle.bes_suite.specs.Worlds.{World, needs_input, Performs, KeepsCounts, PutsAll}
-use Rattle.bes_suite.proofs.FormulaLemmas.{formula-or-fault}
+use Rattle.bes_suite.specs.Formulas.{IsFormula, names_of}
+use Rattle.bes_suite.specs.Judge.{JudgeAnswers, input_refused, no_event, judged, verdict, IsJudged, IsInputRefused, GivesVerdict}
+use Rattle.bes_suite.specs.Worlds.{World, needs_input, Performs, PutsAll}
 use Rattle.bes_suite.proofs.Performing.{refusal, no-memory}
-
--- a refusal of the reader of formulas is one of the run
-pub ends-at-formula : (dialect : Dialect) (text : List ℕ) (fault : FormFault) → Blames fault (IsRefused dialect text fault) → EndsAtFormula dialect text (fault_ending fault)
-ends-at-formula dialect text (form.BadByte at) h = (form.BadByte at, refl, h)
-ends-at-formula dialect text (form.Unexpected at) h = (form.Unexpected at, refl, h)
-ends-at-formula dialect text form.Unfinished h = (form.Unfinished, refl, h)
-ends-at-formula dialect text (form.TooDeep at) h = (form.TooDeep at, refl, h)
-ends-at-formula dialect text (form.TooManyTokens at) h = (form.TooManyTokens at, refl, h)
-ends-at-formula dialect text (form.TooManyNames at) h = (form.TooManyNames at, refl, h)
-ends-at-formula dialect text (form.Undeclared at) h = (form.Undeclared at, refl, h)
-ends-at-formula dialect text form.Memory h = tt
 
 -- the letters and their verdict
 pub gives-answer : (names : List (List ℕ)) (f : Formula) (rest : List ℕ) (word : List ℕ) (answer : Bool) (left : Option (List ℕ)) → GivesTrace names rest (Ok word) left
@@ -63,14 +47,6 @@ module _ (dialect : Dialect) (text : List ℕ) (before after : World) where
   -- what a run of `judge` does
   abbrev pub Judges : Ending → Type 0
   Judges ending = Performs needs_input (λ files rest. JudgeAnswers dialect text rest) ((f : Formula) × IsFormula dialect text f) before after ending
-
-  pub formula-ends : (ending : Ending) → EndsAtFormula dialect text ending → KeepsCounts before after → after.held ≡ before.held → Judges ending
-  formula-ends Positive e keeps held = absurd e
-  formula-ends Negative e keeps held = absurd e
-  formula-ends OutsideFault e keeps held = absurd e
-  formula-ends NoMemory e keeps held = no-memory needs_input _ _ before after keeps held
-  formula-ends (Refused r) (fault, is, why) keeps held =
-      refusal needs_input _ _ before after r (λ files rest tells. subst (λ r. JudgeAnswers dialect text rest (refusing r)) (sym is) (formula_refused why)) (λ before accepted. formula-or-fault dialect text accepted.0 fault accepted.1 why) keeps held
 
   module _ (f : Formula) (is : IsFormula dialect text f) where
     refused-reply : (rest : List ℕ) (r : Refusal) → IsInputRefused (names_of dialect text) rest r → JudgeAnswers dialect text rest (refusing r)

@@ -1,7 +1,7 @@
 -- What a call of `next_letter` says, by what the reader of lines found.
-use Rattle.std.proofs.Common.{◌≡◌, ℕ, ◌+◌, ◌∷◌, List, [], sym, refl, ◌∙◌, ap, subst, Option, Some, None, Result, Ok, Err}
-use Rattle.bes_io.specs.Reader.{Reader, input, HasReadCause}
-use Rattle.bes_io.specs.Lines.{Stop, at_end, at_fault, FoundLine, NextLine}
+use Rattle.std.proofs.Common.{◌≡◌, ℕ, ◌<◌, ◌∷◌, List, [], length, Contains, sym, refl, ◌∙◌, ap, subst, Option, Some, None, Result, Ok, Err}
+use Rattle.bes_io.specs.Reader.{Reader, input, first_line, Finds, HasReadCause}
+use Rattle.bes_io.specs.Lines.{at_fault, FoundLine, NextLine}
 use Rattle.bes_io.specs.declared.lines.Found.{Found}
 use Rattle.bes_io.specs.declared.lines.Found.TheVariants.{Line, End}
 use Rattle.bes_io.specs.declared.lines.LineFault.{LineFault}
@@ -12,15 +12,16 @@ use Rattle.spec_reader.specs.declared.events.Mode.TheVariants.{Ignore}
 use Rattle.bes_suite.specs.declared.endings.Ending.{Ending}
 use Rattle.bes_suite.specs.declared.endings.Ending.TheVariants.{Refused}
 use Rattle.bes_suite.specs.declared.endings.Refusal.TheVariants.{Event}
-use Rattle.bes_suite.specs.Traces.{trace_refusal, line_refusal}
-use Rattle.bes_suite.specs.Letters.{stopped, FoundLetter, FoundEnd, IsRefusedAt, NextLetter, HasTraceCause}
+use Rattle.bes_suite.specs.Traces.{line_refusal}
+use Rattle.bes_suite.specs.Letters.{stopped, FoundLetter, IsRefusedAt, NextLetter, HasTraceCause}
 use Rattle.bes_io.proofs.LinesLemmas.{some-remain}
 
 module _ (names : List (List ℕ)) (n : ℕ) (old new : Reader) (bytes : List ℕ) (left : Option (List ℕ)) where
-  found : (text : List ℕ) (letter : ℕ) → FoundLine old bytes new left → new.line ≡ Some text → IsEventOf names Ignore text letter
-      → FoundLetter names old bytes letter new left
-  found text letter f is event =
+  found : (text : List ℕ) (letter : ℕ) → FoundLine old bytes new left → Finds old bytes (Ok Line) new left → length new.held < 4097
+      → new.line ≡ Some text → IsEventOf names Ignore text letter → FoundLetter names old bytes letter new left
+  found text letter f taken near is event =
       let same : text ≡ f.text = cc in
+      let first : f.text ≡ first_line bytes = let t = taken.1 in cc (t.line, f.line) in
       record {
         later = f.later;
         text = f.text;
@@ -28,6 +29,9 @@ module _ (names : List (List ℕ)) (n : ℕ) (old new : Reader) (bytes : List �
         event = subst (λ t. IsEventOf names Ignore t letter) same event;
         others = f.others;
         last = f.last;
+        taken = taken;
+        first = first;
+        near = near;
       }
 
   refused : (text : List ℕ) (fault : EventFault) → FoundLine old bytes new left → new.line ≡ Some text → event_fault names Ignore text ≡ Some fault
@@ -40,17 +44,22 @@ module _ (names : List (List ℕ)) (n : ℕ) (old new : Reader) (bytes : List �
         lines = f.text ∷ r.lines;
         stop = r.stop;
         remain = f.others r.lines r.stop r.remain;
-        first = ap (λ o. line_refusal n o (trace_refusal names (n + 1) r.lines r.stop)) e;
+        first = ap (λ o. line_refusal n o None) e;
       }
 
 module _ (names : List (List ℕ)) (n : ℕ) (old new : Reader) (left later : Option (List ℕ)) (r : Result Found LineFault)
-    (next : (bytes : List ℕ) → input old left ≡ Some bytes → NextLine old bytes r new later) where
+    (next : (bytes : List ℕ) → input old left ≡ Some bytes → NextLine old bytes r new later)
+    (finds : (bytes : List ℕ) → input old left ≡ Some bytes → Finds old bytes r new later) where
   at : (bytes : List ℕ) → input old left ≡ Some bytes → (q : Result Found LineFault) → r ≡ q → NextLine old bytes q new later
   at bytes told q e = subst (λ q. NextLine old bytes q new later) e (next bytes told)
 
-  pub letter-found : r ≡ Ok Line → (text : List ℕ) (letter : ℕ) → new.line ≡ Some text → IsEventOf names Ignore text letter
+  taken_at : (bytes : List ℕ) → input old left ≡ Some bytes → (q : Result Found LineFault) → r ≡ q → Finds old bytes q new later
+  taken_at bytes told q e = subst (λ q. Finds old bytes q new later) e (finds bytes told)
+
+  pub letter-found : r ≡ Ok Line → (r ≡ Ok Line → length new.held < 4097) → (text : List ℕ) (letter : ℕ) → new.line ≡ Some text → IsEventOf names Ignore text letter
       → (bytes : List ℕ) → input old left ≡ Some bytes → NextLetter names n old bytes (Ok (Some letter)) new later
-  letter-found e text letter is event bytes told = found names n old new bytes later text letter (at bytes told (Ok Line) e) is event
+  letter-found e near text letter is event bytes told =
+      found names n old new bytes later text letter (at bytes told (Ok Line) e) (taken_at bytes told (Ok Line) e) (near e) is event
 
   pub letter-refused : r ≡ Ok Line → (text : List ℕ) (fault : EventFault) → new.line ≡ Some text → event_fault names Ignore text ≡ Some fault
       → (bytes : List ℕ) → input old left ≡ Some bytes → NextLetter names n old bytes (Err (Refused (Event n fault))) new later
@@ -59,14 +68,15 @@ module _ (names : List (List ℕ)) (n : ℕ) (old new : Reader) (left later : Op
   pub end-found : r ≡ Ok End → (bytes : List ℕ) → input old left ≡ Some bytes → NextLetter names n old bytes (Ok None) new later
   end-found e bytes told = let f = at bytes told (Ok End) e in record { rest = f.1; ended = f.0; why = f.2 }
 
-  stops : (fault : LineFault) → r ≡ Err fault → (bytes : List ℕ) → input old left ≡ Some bytes → NextLetter names n old bytes (Err (stopped n fault)) new later
-  stops ReadFault e bytes told = tt
-  stops LineTooLong e bytes told = let f = at bytes told (Err LineTooLong) e in record { lines = []; stop = at_fault LineTooLong; remain = f.0; first = refl }
-  stops InputTooLong e bytes told = let f = at bytes told (Err InputTooLong) e in record { lines = []; stop = at_fault InputTooLong; remain = f.0; first = refl }
+  stops : (r ≡ Err ReadFault → ¬ Contains new.held 10) → (fault : LineFault) → r ≡ Err fault → (bytes : List ℕ) → input old left ≡ Some bytes
+      → NextLetter names n old bytes (Err (stopped n fault)) new later
+  stops none ReadFault e bytes told = record { stays = taken_at bytes told (Err ReadFault) e; no_line = none e }
+  stops none LineTooLong e bytes told = let f = at bytes told (Err LineTooLong) e in record { lines = []; stop = at_fault LineTooLong; remain = f.0; first = refl }
+  stops none InputTooLong e bytes told = let f = at bytes told (Err InputTooLong) e in record { lines = []; stop = at_fault InputTooLong; remain = f.0; first = refl }
 
-  pub letter-stopped : (fault : LineFault) → r ≡ Err fault → (ending : Ending) → ending ≡ stopped n fault
+  pub letter-stopped : (r ≡ Err ReadFault → ¬ Contains new.held 10) → (fault : LineFault) → r ≡ Err fault → (ending : Ending) → ending ≡ stopped n fault
       → (bytes : List ℕ) → input old left ≡ Some bytes → NextLetter names n old bytes (Err ending) new later
-  letter-stopped fault e ending is bytes told = subst (λ q. NextLetter names n old bytes (Err q) new later) (sym is) (stops fault e bytes told)
+  letter-stopped none fault e ending is bytes told = subst (λ q. NextLetter names n old bytes (Err q) new later) (sym is) (stops none fault e bytes told)
 
 -- the cause of an ending is that of the reader's answer
 stop-cause : (before now n : ℕ) (fault : LineFault) → HasReadCause before now (Err fault) → HasTraceCause {T = Option ℕ} before now (Err (stopped n fault))

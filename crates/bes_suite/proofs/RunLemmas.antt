@@ -1,19 +1,19 @@
 -- What a run leaves, by what its command did and how it ended.
-use Rattle.std.proofs.Common.{◌≡◌, ◌≢◌, ◌<◌, ◌≤◌, lit≤, arith, ℕ, ◌⊎◌, inl, inr, List, [], take, length, sym, refl, ◌∙◌, ap, subst, Option, Some, Bool, true, false, IsTrue}
+use Rattle.std.proofs.Common.{◌≡◌, ◌≢◌, ◌≤◌, lit≤, arith, ℕ, inl, inr, List, [], length, sym, refl, ◌∙◌, ap, subst, Option}
 use Rattle.std.proofs.Math.Seq.{take-length}
 use Rattle.std.specs.Io.KnownBytes.{append_known}
 use Rattle.bes_suite.specs.declared.commands.Command.{Command}
-use Rattle.bes_suite.specs.declared.commands.Command.TheVariants as command
 use Rattle.bes_suite.specs.declared.endings.Ending.{Ending}
 use Rattle.bes_suite.specs.declared.endings.Ending.TheVariants.{Positive, Negative, Refused, OutsideFault, NoMemory}
 use Rattle.bes_suite.specs.declared.endings.Refusal.{Refusal}
-use Rattle.bes_suite.specs.declared.endings.Refusal.TheVariants.{Usage, Formula, NoEvent, Event, LineTooLong, InputTooLong}
+use Rattle.bes_suite.specs.declared.endings.Refusal.TheVariants.{Usage, Formula, TooMany, NoEvent, Event, LineTooLong, InputTooLong}
 use Rattle.bes_suite.specs.Replies.{Reply}
 use Rattle.bes_suite.specs.Commands.{command_of, reads_input, file_of}
 use Rattle.bes_suite.specs.Endings.{status_of, message_of, refusal_status}
-use Rattle.bes_suite.specs.Runs.{Told, Unheard, Finishes, unheard}
+use Rattle.bes_suite.specs.Runs.{Told, Finishes}
 use Rattle.bes_suite.specs.Answers.{Contents, AnswersWith, AnswersAs, MayRead, MayReadAs}
-use Rattle.bes_suite.specs.Worlds.{World, Needs, needs_of, Performs, Gives, Adds, AddsNothing, AddsPrefix, Counts, HasFault}
+use Rattle.bes_suite.specs.Streams.{is_streaming, Streams}
+use Rattle.bes_suite.specs.Worlds.{World, Needs, needs_of, Tells, IfNeeded, Performs, Gives, Adds, AddsNothing, AddsPrefix, Counts}
 use Rattle.bes_suite.specs.Results.{Gave, IsAnswered, Partial, HasMessageCause}
 
 -- what the words need, by their command
@@ -28,10 +28,19 @@ performs-as words command is before after ending =
     subst (λ c. Performs (needs_as command words) (AnswersAs command words) (MayReadAs command words) before after ending
     → Performs (needs_as c words) (AnswersAs c words) (MayReadAs c words) before after ending) is (λ p. p)
 
+-- and so is what it has read and written where the outside fails
+pub streams-as : (words : List (List ℕ)) (command : Command) → command ≡ command_of words → (files : Contents) (rest : List ℕ) (before after : World)
+    → (Tells (needs_as command words) (MayReadAs command words) before files rest → IfNeeded (is_streaming command) (Streams (AnswersAs command words files) rest before after))
+    → Tells (needs_of words) (MayRead words) before files rest → IfNeeded (is_streaming (command_of words)) (Streams (AnswersWith words files) rest before after)
+streams-as words command is files rest before after =
+    subst (λ c. (Tells (needs_as command words) (MayReadAs command words) before files rest → IfNeeded (is_streaming command) (Streams (AnswersAs command words files) rest before after))
+    → Tells (needs_as c words) (MayReadAs c words) before files rest → IfNeeded (is_streaming c) (Streams (AnswersAs c words files) rest before after)) is (λ p. p)
+
 -- the status of a refusal is none of an answer, of a fault or of want of memory
-refusal-status : (r : Refusal) → (2 ≤ refusal_status r) × (refusal_status r ≤ 4)
+refusal-status : (r : Refusal) → (2 ≤ refusal_status r) × (refusal_status r ≤ 6)
 refusal-status Usage = (lit≤ tt, lit≤ tt)
 refusal-status (Formula fault) = (lit≤ tt, lit≤ tt)
+refusal-status (TooMany part count) = (lit≤ tt, lit≤ tt)
 refusal-status NoEvent = (lit≤ tt, lit≤ tt)
 refusal-status (Event line fault) = (lit≤ tt, lit≤ tt)
 refusal-status (LineTooLong line) = (lit≤ tt, lit≤ tt)

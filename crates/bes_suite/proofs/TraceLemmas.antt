@@ -1,5 +1,5 @@
 -- The trace that the lines so far give.
-use Rattle.std.proofs.Common.{◌≡◌, ℕ, suc, ◌+◌, ◌≤◌, ◌<◌, ◌∷◌, ◌⊎◌, inl, inr, List, [], ◌++◌, length, arith, sym, refl, ◌∙◌, ap, subst, Option, Some, None, Result, Ok, Err, append_assoc, IfOk, IsSome}
+use Rattle.std.proofs.Common.{◌≡◌, ℕ, ◌+◌, ◌<◌, ◌∷◌, inl, inr, List, [], ◌++◌, length, arith, sym, refl, ◌∙◌, ap, subst, Option, Some, None, Result, Ok, Err, append_assoc, IfOk, IsSome}
 use Rattle.std.proofs.lemmas.List.{append-nil}
 use Rattle.std.specs.Io.KnownBytes.{prepend_known}
 use Rattle.bes_io.specs.Causes.{Rose}
@@ -7,12 +7,13 @@ use Rattle.bes_io.specs.Reader.{Reader, input, fresh}
 use Rattle.bes_io.specs.Lines.{Stop, at_end, HasLines, Remains}
 use Rattle.bes_io.specs.declared.lines.Phase.TheVariants.{Closed}
 use Rattle.spec_reader.specs.Event.{IsEventOf, event_fault}
+use Rattle.spec_reader.specs.declared.events.EventFault.{EventFault}
 use Rattle.spec_reader.specs.declared.events.Mode.TheVariants.{Ignore}
 use Rattle.bes_suite.specs.declared.endings.Refusal.{Refusal}
 use Rattle.bes_suite.specs.declared.endings.Ending.{Ending}
 use Rattle.bes_suite.specs.declared.endings.Ending.TheVariants.{Positive, Negative, Refused, OutsideFault, NoMemory}
 use Rattle.bes_suite.specs.Traces.{most_input, AreEvents, trace_refusal, line_refusal}
-use Rattle.bes_suite.specs.Letters.{FoundLetter, FoundEnd, IsRefusedAt, NextLetter, GivesTrace, HasTraceCause}
+use Rattle.bes_suite.specs.Letters.{FoundLetter, FoundEnd, next_refusal, NextLetter, GivesTrace, HasTraceCause}
 
 -- these letters came, and the lines to come are those that the reader still finds
 pub record SoFar (names : List (List ℕ)) (rest : List ℕ) (reader : Reader) (left : Option (List ℕ)) (word : List ℕ) : Type 0 where
@@ -41,7 +42,16 @@ refusal-after names (l ∷ ls) (a ∷ w) n later stop h =
     ∙ refusal-after names ls w (n + 1) later stop h.1
     ∙ ap (λ k. trace_refusal names k later stop) (omega arith)
 
-nothing-left : (held : List ℕ) (left : Option (List ℕ)) → prepend_known held left ≡ Some [] → left ≡ Some []
+-- the next refusal is the first one
+line-first : (n : ℕ) (fault : Option EventFault) (later : Option Refusal) (r : Refusal) → line_refusal n fault None ≡ Some r → line_refusal n fault later ≡ Some r
+line-first n None later r e = cc
+line-first n (Some fault) later r e = e
+
+first-refusal : (names lines : List (List ℕ)) (n : ℕ) (stop : Stop) (r : Refusal) → next_refusal names n lines stop ≡ Some r → trace_refusal names n lines stop ≡ Some r
+first-refusal names [] n stop r e = e
+first-refusal names (text ∷ lines) n stop r e = line-first n (event_fault names Ignore text) (trace_refusal names (n + 1) lines stop) r e
+
+pub nothing-left : (held : List ℕ) (left : Option (List ℕ)) → prepend_known held left ≡ Some [] → left ≡ Some []
 nothing-left held None e = cc
 nothing-left [] (Some xs) e = e
 nothing-left (b ∷ held) (Some xs) e = cc
@@ -95,7 +105,8 @@ module _ (names : List (List ℕ)) (rest : List ℕ) (reader new : Reader) (left
         s.lines ++ f.lines,
         f.stop,
         s.others f.lines f.stop f.remain,
-        refusal-after names s.lines word 1 f.lines f.stop s.events ∙ ap (λ k. trace_refusal names k f.lines f.stop) k ∙ f.first,
+        refusal-after names s.lines word 1 f.lines f.stop s.events ∙ ap (λ k. trace_refusal names k f.lines f.stop) k
+            ∙ first-refusal names f.lines n f.stop r f.first,
       )
 
   pub letters-stopped : (n : ℕ) (ending : Ending) (r : Result (Option ℕ) Ending) → n ≡ length word + 1

@@ -1,25 +1,38 @@
 -- The words, the named file and the input ask for one thing.
-use Rattle.std.proofs.Common.{◌≡◌, ℕ, ◌∷◌, List, [], length, sym, refl, ◌∙◌, ap, subst, Option, Some, None, Bool}
+use Rattle.std.proofs.Common.{◌≡◌, ℕ, ◌∷◌, List, [], length, sym, refl, ◌∙◌, ap, subst, Some, None}
 use Rattle.bes_io.specs.Lines.{Stop, at_end, HasLines}
-use Rattle.forms.specs.Tree.{Formula}
 use Rattle.forms.specs.Satisfaction.{meets}
 use Rattle.form_reader.specs.declared.dialect.Dialect.{Dialect}
-use Rattle.form_reader.specs.declared.fault.FormFault.{FormFault}
-use Rattle.spec_reader.specs.Event.{IsEventOf}
 use Rattle.spec_reader.specs.declared.events.Mode.TheVariants.{Ignore}
 use Rattle.spec_reader.proofs.EventLemmas.{one_letter}
 use Rattle.bes_suite.specs.declared.commands.Command.{Command}
-use Rattle.bes_suite.specs.declared.commands.Command.TheVariants.{Usage, Judge}
+use Rattle.bes_suite.specs.declared.commands.Command.TheVariants.{Usage, Judge, Forms, Translate, Monitor}
+use Rattle.bes_suite.specs.declared.endings.Ending.TheVariants.{Positive}
 use Rattle.bes_suite.specs.declared.endings.Refusal.{Refusal}
 use Rattle.bes_suite.specs.declared.endings.Refusal.TheVariants as refusal
 use Rattle.bes_suite.specs.Replies.{Reply, refusing}
-use Rattle.bes_suite.specs.Commands.{command_of, word_at}
+use Rattle.bes_suite.specs.Commands.{command_of}
 use Rattle.bes_suite.specs.Traces.{most_input, AreEvents, trace_refusal}
-use Rattle.bes_suite.specs.Judge.{JudgeAnswers, formula_refused, input_refused, no_event, judged, IsFormula, IsRefused, names_of, verdict}
+use Rattle.bes_suite.specs.Formulas.{names_of}
+use Rattle.bes_suite.specs.Judge.{JudgeAnswers, formula_refused, input_refused, no_event, judged, verdict}
+use Rattle.bes_suite.specs.Showing as showing
+use Rattle.bes_suite.specs.Showing.{FormsAnswers}
+use Rattle.bes_suite.specs.Translation as translation
+use Rattle.bes_suite.specs.Limits.{most_classes}
+use Rattle.bes_suite.specs.Translation.{TranslateAnswers, IsTranslation}
+use Rattle.translate.specs.Counting.{IsFirstOver}
+use Rattle.translate.proofs.CountLemmas.{first_over_is_one}
+use Rattle.bes_suite.specs.Monitoring as monitoring
+use Rattle.bes_suite.specs.Monitoring.{MonitorAnswers, IsWatched, AreWithin}
 use Rattle.bes_suite.specs.Answers.{Contents, AnswersWith, AnswersAs}
 use Rattle.bes_suite.proofs.FormulaLemmas.{one-formula, formula-or-fault}
+use Rattle.bes_suite.proofs.TranslationLemmas.{translation-one, over-or-translated}
 use Rattle.bes_io.proofs.LinesLemmas.{one-reading}
 use Rattle.bes_suite.proofs.TraceLemmas.{not-refused}
+use Rattle.bes_suite.proofs.WatchLemmas.{one-watched}
+use Rattle.bes_suite.proofs.OpenLemmas.{over-or-within}
+use Rattle.translate.specs.Counting.{IsFirstOver}
+use Rattle.translate.proofs.CountLemmas.{first_over_is_one}
 
 -- lines have their letters in one way
 one-word : (names lines : List (List ℕ)) (u v : List ℕ) → AreEvents names lines u → AreEvents names lines v → u ≡ v
@@ -77,9 +90,67 @@ module _ {dialect : Dialect} {text rest : List ℕ} where
       let forms : f ≡ g = one-formula dialect text f g a b in
       ap (λ x. verdict (meets (length (names_of dialect text)) x (letter ∷ word))) forms ∙ ap (λ w. verdict (meets (length (names_of dialect text)) g w)) words
 
+-- a formula is shown in one way
+one-showing : {dialect : Dialect} {text : List ℕ} {c d : Reply} → FormsAnswers dialect text c → FormsAnswers dialect text d → c ≡ d
+one-showing (showing.formula_refused {fault = x} a) (showing.formula_refused {fault = y} b) =
+    let same : x ≡ y = cc in ap (λ z. refusing (refusal.Formula z)) same
+one-showing {dialect} {text} (showing.formula_refused a) (showing.formula_shown g b) = absurd (formula-or-fault dialect text _ _ b a)
+one-showing {dialect} {text} (showing.formula_shown f a) (showing.formula_refused b) = absurd (formula-or-fault dialect text _ _ a b)
+one-showing {dialect} {text} (showing.formula_shown f a) (showing.formula_shown g b) =
+    ap (λ z. record { output = showing.shown (names_of dialect text) z; ending = Positive }) (one-formula dialect text f g a b)
+
+-- and translated in one way
+one-translation : {dialect : Dialect} {text : List ℕ} {c d : Reply} → TranslateAnswers dialect text c → TranslateAnswers dialect text d → c ≡ d
+one-translation (translation.formula_refused {fault = x} a) (translation.formula_refused {fault = y} b) =
+    let same : x ≡ y = cc in ap (λ z. refusing (refusal.Formula z)) same
+one-translation {dialect} {text} (translation.formula_refused a) (translation.too_many g b over) = absurd (formula-or-fault dialect text _ _ b a)
+one-translation {dialect} {text} (translation.formula_refused a) (translation.translated g b made) = absurd (formula-or-fault dialect text _ _ b a)
+one-translation {dialect} {text} (translation.too_many f a over) (translation.formula_refused b) = absurd (formula-or-fault dialect text _ _ a b)
+one-translation {dialect} {text} (translation.too_many {part = i} {count = m} f a over) (translation.too_many {part = j} {count = n} g b under) =
+    let names = names_of dialect text in
+    let forms : f ≡ g = one-formula dialect text f g a b in
+    let one = first_over_is_one (length names) g most_classes i j m n (subst (λ z. IsFirstOver (length names) z most_classes i m) forms over) under in
+    ap (λ k. refusing (refusal.TooMany k m)) one.0 ∙ ap (λ k. refusing (refusal.TooMany j k)) one.1
+one-translation {dialect} {text} (translation.too_many {part = i} {count = m} f a over) (translation.translated {output = out} g b made) =
+    let names = names_of dialect text in
+    let forms : f ≡ g = one-formula dialect text f g a b in
+    absurd (over-or-translated names g i m out (subst (λ z. IsFirstOver (length names) z most_classes i m) forms over) made)
+one-translation {dialect} {text} (translation.translated f a made) (translation.formula_refused b) = absurd (formula-or-fault dialect text _ _ a b)
+one-translation {dialect} {text} (translation.translated {output = out} f a made) (translation.too_many {part = i} {count = m} g b over) =
+    let names = names_of dialect text in
+    let forms : f ≡ g = one-formula dialect text f g a b in
+    absurd (over-or-translated names g i m out over (subst (λ z. IsTranslation names z out) forms made))
+one-translation {dialect} {text} (translation.translated {output = xs} f a made) (translation.translated {output = ys} g b again) =
+    let names = names_of dialect text in
+    let forms : f ≡ g = one-formula dialect text f g a b in
+    ap (λ z. record { output = z; ending = Positive }) (translation-one names g xs ys (subst (λ z. IsTranslation names z xs) forms made) again)
+
+-- and watched in one way
+one-watching : {dialect : Dialect} {text rest : List ℕ} {c d : Reply} → MonitorAnswers dialect text rest c → MonitorAnswers dialect text rest d → c ≡ d
+one-watching (monitoring.formula_refused {fault = x} a) (monitoring.formula_refused {fault = y} b) =
+    let same : x ≡ y = cc in ap (λ z. refusing (refusal.Formula z)) same
+one-watching {dialect = dialect} {text = text} (monitoring.formula_refused a) (monitoring.too_many b h) = absurd (formula-or-fault dialect text _ _ b a)
+one-watching {dialect = dialect} {text = text} (monitoring.formula_refused a) (monitoring.watched b h w) = absurd (formula-or-fault dialect text _ _ b a)
+one-watching {dialect = dialect} {text = text} (monitoring.too_many a h) (monitoring.formula_refused b) = absurd (formula-or-fault dialect text _ _ a b)
+one-watching {dialect = dialect} {text = text} (monitoring.too_many {f = f} {part = i} {count = m} a h) (monitoring.too_many {f = g} {part = j} {count = n} b k) =
+    let p = length (names_of dialect text) in
+    let moved = subst (λ x. IsFirstOver p x most_classes i m) (one-formula dialect text f g a b) h in
+    let same = first_over_is_one p g most_classes i j m n moved k in
+    ap (λ x. refusing (refusal.TooMany x m)) same.0 ∙ ap (λ x. refusing (refusal.TooMany j x)) same.1
+one-watching {dialect = dialect} {text = text} (monitoring.too_many {f = f} {part = i} {count = m} a h) (monitoring.watched {f = g} b k w) =
+    absurd (over-or-within (names_of dialect text) g i m (subst (λ x. IsFirstOver (length (names_of dialect text)) x most_classes i m) (one-formula dialect text f g a b) h) k)
+one-watching {dialect = dialect} {text = text} (monitoring.watched a h w) (monitoring.formula_refused b) = absurd (formula-or-fault dialect text _ _ a b)
+one-watching {dialect = dialect} {text = text} (monitoring.watched {f = f} a h w) (monitoring.too_many {f = g} {part = j} {count = n} b k) =
+    absurd (over-or-within (names_of dialect text) g j n k (subst (λ x. AreWithin (names_of dialect text) x) (one-formula dialect text f g a b) h))
+one-watching {dialect = dialect} {text = text} {rest = rest} (monitoring.watched {f = f} {reply = c} a h w) (monitoring.watched {f = g} b k z) =
+    one-watched (names_of dialect text) g (subst (λ x. IsWatched (names_of dialect text) x rest c) (one-formula dialect text f g a b) w) z
+
 one-as : (command : Command) (words : List (List ℕ)) (files : Contents) (rest : List ℕ) (c d : Reply) → AnswersAs command words files rest c → AnswersAs command words files rest d → c ≡ d
 one-as Usage words files rest c d p q = p ∙ sym q
 one-as (Judge dialect) words files rest c d p q = one-judgement p q
+one-as (Forms dialect) words files rest c d p q = one-showing p q
+one-as (Translate dialect) words files rest c d p q = one-translation p q
+one-as (Monitor dialect) words files rest c d p q = one-watching p q
 
 -- the words, the files and the input ask for one thing
 pub one-reply : (words : List (List ℕ)) (files : Contents) (rest : List ℕ) (c d : Reply) → AnswersWith words files rest c → AnswersWith words files rest d → c ≡ d

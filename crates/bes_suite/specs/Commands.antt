@@ -1,11 +1,11 @@
 -- The commands, by the words of the command line.
-use Rattle.std.specs.Prelude.{ℕ, ◌==◌, ◌&&◌, if◌then◌else◌, List, [], length, codes, Bool, true, false, Option, Some, None}
+use Rattle.std.specs.Prelude.{ℕ, ◌==◌, if◌then◌else◌, List, [], length, codes, Bool, true, false, Option, Some, None}
 use Rattle.std.specs.List.{slice_index_or}
 use Rattle.std.specs.Str.{bytes_eq}
 use Rattle.form_reader.specs.declared.dialect.Dialect.{Dialect}
 use Rattle.form_reader.specs.declared.dialect.Dialect.TheVariants.{Ltlf, Ldlf}
 use Rattle.bes_suite.specs.declared.commands.Command.{Command}
-use Rattle.bes_suite.specs.declared.commands.Command.TheVariants.{Usage, Judge}
+use Rattle.bes_suite.specs.declared.commands.Command.TheVariants.{Usage, Judge, Forms, Translate, Monitor}
 
 -- a word of the command line, counted from 0
 abbrev pub word_at : List (List ℕ) → ℕ → List ℕ
@@ -15,23 +15,35 @@ word_at words i = slice_index_or words i []
 abbrev pub dialect_of : List ℕ → Option Dialect
 dialect_of word = if bytes_eq word (codes "ltlf") then Some Ltlf else if bytes_eq word (codes "ldlf") then Some Ldlf else None
 
--- judging in this dialect, if there is one
-abbrev pub judging_in : Option Dialect → Command
-judging_in None = Usage
-judging_in (Some dialect) = Judge dialect
+-- the command that a word names, in a dialect
+abbrev pub command_in : List ℕ → Dialect → Command
+command_in word dialect = if bytes_eq word (codes "judge") then Judge dialect
+    else if bytes_eq word (codes "forms") then Forms dialect
+    else if bytes_eq word (codes "translate") then Translate dialect
+    else if bytes_eq word (codes "monitor") then Monitor dialect
+    else Usage
+
+-- the same, where the dialect may be none
+abbrev pub command_with : List ℕ → Option Dialect → Command
+command_with word None = Usage
+command_with word (Some dialect) = command_in word dialect
 
 -- what the words ask for
 abbrev pub command_of : List (List ℕ) → Command
-command_of words =
-    if length words == 3 && bytes_eq (word_at words 0) (codes "judge") then judging_in (dialect_of (word_at words 1))
-    else Usage
+command_of words = if length words == 3 then command_with (word_at words 0) (dialect_of (word_at words 1)) else Usage
 
 -- whether the command reads the input
 abbrev pub reads_input : Command → Bool
 reads_input Usage = false
 reads_input (Judge dialect) = true
+reads_input (Forms dialect) = false
+reads_input (Translate dialect) = false
+reads_input (Monitor dialect) = true
 
 -- the file that the command reads, if it reads one
 abbrev pub file_of : Command → List (List ℕ) → Option (List ℕ)
 file_of Usage words = None
 file_of (Judge dialect) words = None
+file_of (Forms dialect) words = None
+file_of (Translate dialect) words = None
+file_of (Monitor dialect) words = None

@@ -5,14 +5,16 @@ use Rattle.form_reader.specs.declared.fault.FormFault.TheVariants as form
 use Rattle.spec_reader.specs.declared.events.EventFault.{EventFault}
 use Rattle.spec_reader.specs.declared.events.EventFault.TheVariants as event
 use Rattle.bes_suite.specs.declared.endings.Refusal.{Refusal}
-use Rattle.bes_suite.specs.declared.endings.Refusal.TheVariants.{Usage, Formula, NoEvent, Event, LineTooLong, InputTooLong}
+use Rattle.bes_suite.specs.Limits.{most_classes}
+use Rattle.bes_suite.specs.declared.endings.Refusal.TheVariants.{Usage, Formula, TooMany, NoEvent, Event, LineTooLong, InputTooLong}
 use Rattle.bes_suite.specs.declared.endings.Ending.{Ending}
 use Rattle.bes_suite.specs.declared.endings.Ending.TheVariants.{Positive, Negative, Refused, OutsideFault, NoMemory}
 
--- the status of a refusal: wrong words, a refused formula, refused input
+-- the status of a refusal: wrong words, a refused formula, a limit, refused input
 abbrev pub refusal_status : Refusal → ℕ
 refusal_status Usage = 2
 refusal_status (Formula fault) = 3
+refusal_status (TooMany part count) = 5
 refusal_status NoEvent = 4
 refusal_status (Event line fault) = 4
 refusal_status (LineTooLong line) = 4
@@ -50,6 +52,7 @@ line_text line why = codes "bes: input line " ++ decimal line ++ codes ": " ++ w
 unfoldable pub refusal_text : Refusal → List ℕ
 refusal_text Usage = codes "usage: bes judge|forms|translate|monitor DIALECT FORMULA, synth|play SPEC, check, demo N\n"
 refusal_text (Formula fault) = codes "bes: formula: " ++ form_fault_text fault ++ codes "\n"
+refusal_text (TooMany part count) = codes "bes: formula part " ++ decimal part ++ codes " has " ++ decimal count ++ codes " locations, the limit is " ++ decimal most_classes ++ codes "\n"
 refusal_text NoEvent = codes "bes: input: no event\n"
 refusal_text (Event line fault) = line_text line (event_fault_text fault)
 refusal_text (LineTooLong line) = line_text line (codes "line too long")
@@ -67,4 +70,5 @@ message_of NoMemory = codes "bes: out of memory\n"
 abbrev pub IsBeforeInput : Ending → Type 0
 IsBeforeInput (Refused Usage) = Unit {0}
 IsBeforeInput (Refused (Formula fault)) = Unit {0}
+IsBeforeInput (Refused (TooMany part count)) = Unit {0}
 IsBeforeInput ending = ⊥

@@ -3,8 +3,16 @@ pub mod Endings
 pub mod Replies
 pub mod Letters
 pub mod Traces
+pub mod Formulas
 pub mod Judge
+pub mod Showing
+pub mod Limits
+pub mod AutomatonText
+pub mod Translation
+pub mod Monitoring
+pub mod Watching
 pub mod Answers
 pub mod Worlds
+pub mod Streams
 pub mod Runs
 pub mod Results

@@ -1,12 +1,12 @@
 -- What the top call leaves, by its status.
-use Rattle.std.specs.Prelude.{◌≡◌, ◌≢◌, ℕ, ◌<◌, ◌⊎◌, List, [], take, codes, Bool, Option, Some}
+use Rattle.std.specs.Prelude.{◌≡◌, ◌≢◌, ℕ, ◌⊎◌, List, [], take, Option}
 use Rattle.std.specs.Io.KnownBytes.{append_known}
 use Rattle.bes_io.specs.Causes.{Rose}
 use Rattle.bes_suite.specs.declared.endings.Ending.{Ending}
 use Rattle.bes_suite.specs.declared.endings.Ending.TheVariants.{OutsideFault, NoMemory}
 use Rattle.bes_suite.specs.Replies.{Reply}
 use Rattle.bes_suite.specs.Endings.{status_of, message_of}
-use Rattle.bes_suite.specs.Worlds.{World, Needs, AddsPrefix, HasFault, KeepsCounts, IfNeeded}
+use Rattle.bes_suite.specs.Worlds.{World, Needs, AddsPrefix, HasFault, KeepsCounts}
 
 -- The run gave what a reply asks for: its output, its message and its status.
 pub record Gave (replies : Reply → Type 0) (before after : World) (err told : Option (List ℕ)) (number : ℕ) : Type 0 where

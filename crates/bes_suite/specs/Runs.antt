@@ -3,7 +3,7 @@ use Rattle.std.specs.Prelude.{◌≡◌, ◌≢◌, ℕ, ◌≤◌, ◌⊎◌, L
 use Rattle.std.specs.Io.KnownBytes.{append_known}
 use Rattle.bes_io.specs.Causes.{Rose}
 use Rattle.bes_suite.specs.declared.endings.Ending.{Ending}
-use Rattle.bes_suite.specs.declared.endings.Ending.TheVariants.{Positive, Negative, Refused, OutsideFault, NoMemory}
+use Rattle.bes_suite.specs.declared.endings.Ending.TheVariants.{NoMemory}
 use Rattle.bes_suite.specs.Endings.{status_of, message_of}
 
 -- the status that stands where the message could not be put

@@ -1,5 +1,5 @@
 -- The trace that the lines of the input give, and what is refused first in them.
-use Rattle.std.specs.Prelude.{◌≡◌, ℕ, suc, ◌+◌, List, [], ◌∷◌, Option, Some, None}
+use Rattle.std.specs.Prelude.{ℕ, ◌+◌, List, [], ◌∷◌, Option, Some, None}
 use Rattle.bes_io.specs.Lines.{Stop, at_end, at_fault}
 use Rattle.bes_io.specs.declared.lines.LineFault.TheVariants as line
 use Rattle.spec_reader.specs.Event.{IsEventOf, event_fault}

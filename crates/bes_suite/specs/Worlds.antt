@@ -3,11 +3,11 @@ use Rattle.std.specs.Prelude.{◌≡◌, ℕ, ◌⊎◌, Bool, true, false, List
 use Rattle.std.specs.Io.KnownBytes.{append_known}
 use Rattle.bes_io.specs.Causes.{Rose}
 use Rattle.bes_suite.specs.declared.endings.Ending.{Ending}
-use Rattle.bes_suite.specs.declared.endings.Ending.TheVariants.{Positive, Negative, Refused, OutsideFault, NoMemory}
+use Rattle.bes_suite.specs.declared.endings.Ending.TheVariants.{Positive, Negative, OutsideFault, NoMemory}
 use Rattle.bes_suite.specs.Endings.{IsBeforeInput}
 use Rattle.bes_suite.specs.Replies.{Reply}
 use Rattle.bes_suite.specs.Commands.{command_of, reads_input, file_of}
-use Rattle.bes_suite.specs.Answers.{Contents, MayRead}
+use Rattle.bes_suite.specs.Answers.{Contents}
 
 -- What the files hold, which of their names failed, what the input has left and what the output holds, where they tell
 -- it, and the counts of faults of the input and the output.
@@ -36,6 +36,10 @@ needs_of words = record { input = reads_input (command_of words); file = file_of
 -- a command that needs the input alone
 abbrev pub needs_input : Needs
 needs_input = record { input = true; file = None }
+
+-- a command that needs neither
+abbrev pub needs_nothing : Needs
+needs_nothing = record { input = false; file = None }
 
 -- a fact that is asked for only where it is needed
 abbrev pub IfNeeded : Bool → Type 0 → Type 0

@@ -1,7 +1,7 @@
 //! The commands, by the words.
 ghost use Rattle.std.specs.Prelude.{◌≡◌};
 ghost use Rattle.std.specs.Str.{bytes_eq};
-ghost use Rattle.bes_suite.specs.Commands.{command_of, dialect_of};
+ghost use Rattle.bes_suite.specs.Commands.{command_in, command_of, dialect_of};
 
 use bes_io::Word;
 use form_reader::Dialect;
@@ -13,6 +13,12 @@ pub enum Command {
     Usage,
     /// Whether a trace meets a formula of this dialect.
     Judge(Dialect),
+    /// How a formula of this dialect is read, and its negation normal form.
+    Forms(Dialect),
+    /// The least automaton of a formula of this dialect.
+    Translate(Dialect),
+    /// The verdict of a formula of this dialect after each event.
+    Monitor(Dialect),
 }
 
 // Whether the word is this text.
@@ -35,16 +41,32 @@ fn find_dialect(word: &Word) -> Option<Dialect>
     }
 }
 
+// The command that a word names, in a dialect.
+fn find_command_in(word: &Word, dialect: Dialect) -> Command
+    ensures { result ≡ command_in word.now dialect }
+{
+    if is_word(word, b"judge") {
+        Command::Judge(dialect)
+    } else if is_word(word, b"forms") {
+        Command::Forms(dialect)
+    } else if is_word(word, b"translate") {
+        Command::Translate(dialect)
+    } else if is_word(word, b"monitor") {
+        Command::Monitor(dialect)
+    } else {
+        Command::Usage
+    }
+}
+
 // The command of the words.
 pub fn find_command(words: &[Word]) -> Command
     ensures { result ≡ command_of words.now }
 {
-    if words.len() == 3 && is_word(&words[0], b"judge") {
-        match find_dialect(&words[1]) {
-            Some(dialect) => Command::Judge(dialect),
-            None => Command::Usage,
-        }
-    } else {
-        Command::Usage
+    if words.len() != 3 {
+        return Command::Usage;
+    }
+    match find_dialect(&words[1]) {
+        Some(dialect) => find_command_in(&words[0], dialect),
+        None => Command::Usage,
     }
 }

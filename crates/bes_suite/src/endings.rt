@@ -15,6 +15,9 @@ pub enum Refusal {
     Usage,
     /// The formula, at this place or as unfinished.
     Formula(FormFault),
+    /// This part of the formula, the whole coming last, is the first with more locations than a job may have, and it
+    /// has so many.
+    TooMany { part: u64, count: u32 },
     /// The input has no line.
     NoEvent,
     /// This line of the input is no event.
@@ -53,6 +56,7 @@ fn refusal_number(refusal: Refusal) -> u8
     match refusal {
         Refusal::Usage => 2,
         Refusal::Formula(_) => 3,
+        Refusal::TooMany { .. } => 5,
         Refusal::NoEvent => 4,
         Refusal::Event { .. } => 4,
         Refusal::LineTooLong { .. } => 4,

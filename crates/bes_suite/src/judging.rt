@@ -3,53 +3,21 @@ ghost use Rattle.std.specs.Prelude.{◌≡◌, ℕ, List, [], Option, Some, Matc
 ghost use Rattle.forms.specs.Tree.{Formula, tree};
 ghost use Rattle.forms.specs.Proper.{IsProper};
 ghost use Rattle.bes_suite.specs.Endings.{IsBeforeInput};
-ghost use Rattle.bes_suite.specs.Judge.{IsFormula, JudgeAnswers, names_of, no_names, verdict, fault_ending, EndsAtFormula, GivesVerdict};
+ghost use Rattle.bes_suite.specs.Formulas.{IsFormula, names_of, no_names, fault_ending, EndsAtFormula};
+ghost use Rattle.bes_suite.specs.Judge.{JudgeAnswers, verdict, GivesVerdict};
 ghost use Rattle.bes_suite.specs.Letters.{HasTraceCause};
 ghost use Rattle.bes_suite.specs.Answers.{Contents};
 ghost use Rattle.bes_suite.specs.Worlds.{world, needs_input, Performs, PutsAll};
 
 use crate::endings::{Ending, Refusal};
+use crate::formulas::read_formula;
 use crate::putting::put_all;
 use crate::traces::read_trace;
 use bes_io::{Sink, Source};
-use form_reader::{Dialect, FormFault, Names, read_form};
+use form_reader::{Dialect, Names};
 use forms::Form;
 use std::alloc::Global;
 use trace_meaning::judge;
-
-// How a run ends where its formula can't be read.
-fn formula_ending(fault: FormFault) -> Ending
-    ensures { result ≡ fault_ending fault }
-{
-    match fault {
-        FormFault::BadByte { .. } => Ending::Refused(Refusal::Formula(fault)),
-        FormFault::Unexpected { .. } => Ending::Refused(Refusal::Formula(fault)),
-        FormFault::Unfinished => Ending::Refused(Refusal::Formula(fault)),
-        FormFault::TooDeep { .. } => Ending::Refused(Refusal::Formula(fault)),
-        FormFault::TooManyTokens { .. } => Ending::Refused(Refusal::Formula(fault)),
-        FormFault::TooManyNames { .. } => Ending::Refused(Refusal::Formula(fault)),
-        FormFault::Undeclared { .. } => Ending::Refused(Refusal::Formula(fault)),
-        FormFault::Memory => Ending::NoMemory,
-    }
-}
-
-// The formula of a text, with its names in order of first use.
-pub fn read_formula(
-    alloc: Global,
-    dialect: Dialect,
-    text: &[u8],
-    names: &mut Names,
-) -> Result<Form, Ending>
-    requires { names.old ≡ no_names }
-    ensures formula { MatchResult result (λ form. IsFormula dialect text.now (tree form)) (λ ending. EndsAtFormula dialect text.now ending) }
-    ensures names { MatchResult result (λ form. names.new.names ≡ names_of dialect text.now) (λ ending. Unit {0}) }
-    ensures proper { MatchResult result (λ form. IsProper (length names.new.names) (tree form)) (λ ending. Unit {0}) }
-{
-    match read_form(alloc, dialect, text, names) {
-        Ok(form) => Ok(form),
-        Err(fault) => Err(formula_ending(fault)),
-    }
-}
 
 // The verdict of the formula on the trace that the input gives.
 fn judge_input<S: Source>(

@@ -3,13 +3,14 @@ ghost use Rattle.std.specs.Prelude.{◌≡◌, ◌↔◌, ◌+◌, ◌≤◌, �
 ghost use Rattle.bes_suite.specs.Endings.{message_of, refusal_text, form_fault_text, event_fault_text, line_text};
 
 use crate::endings::{Ending, Refusal};
+use crate::limits::MOST_CLASSES;
 use arrayvec::ArrayVec;
 use form_reader::FormFault;
 use itoa::Buffer;
 use spec_reader::EventFault;
 use std::marker::Model;
 
-/// A line of output or a message, of at most 4,097 bytes.
+/// A message, of at most 4,097 bytes.
 #[derive(Drop)]
 pub struct Message {
     bytes: ArrayVec<u8, 4097>,
@@ -134,6 +135,14 @@ fn refusal_message(refusal: Refusal) -> Message
         Refusal::Formula(fault) => {
             with_form_fault(Message::new().text(b"bes: formula: "), fault).text(b"\n")
         }
+        Refusal::TooMany { part, count } => Message::new()
+            .text(b"bes: formula part ")
+            .number(part)
+            .text(b" has ")
+            .number(u64::from(count))
+            .text(b" locations, the limit is ")
+            .number(u64::from(MOST_CLASSES))
+            .text(b"\n"),
         Refusal::NoEvent => Message::new().text(b"bes: input: no event\n"),
         Refusal::Event { line, fault } => with_event_fault(at_line(line), fault).text(b"\n"),
         Refusal::LineTooLong { line } => at_line(line).text(b"line too long").text(b"\n"),

@@ -1,15 +1,21 @@
 //! The top call.
-ghost use Rattle.std.specs.Prelude.{◌≡◌, ◌≢◌, ℕ, ◌<◌, ◌⊎◌, List, [], Some, None, IsTrue, false};
+ghost use Rattle.std.specs.Prelude.{◌≡◌, ◌≢◌, ℕ, ◌<◌, ◌⊎◌, List, [], Some, None, IsTrue, false, length};
+ghost use Rattle.forms.specs.Tree.{Formula};
 ghost use Rattle.bes_suite.specs.Replies.{Reply};
+ghost use Rattle.bes_suite.specs.Translation.{IsTranslation, IsOnlyAutomaton};
 ghost use Rattle.bes_suite.specs.Commands.{command_of, reads_input, file_of};
 ghost use Rattle.bes_suite.specs.Results.{IsAnswered, Partial, HasFaultCause, HasMessageCause, CountsStand, LeavesMessage, IsUnread};
 ghost use Rattle.bes_suite.specs.Answers.{AnswersWith, MayRead, Contents};
 ghost use Rattle.bes_suite.specs.Runs.{Finishes};
+ghost use Rattle.bes_suite.specs.Streams.{is_streaming, Streams};
 ghost use Rattle.bes_suite.specs.Worlds.{world, needs_of, Tells, Gains, IfNeeded, Performs};
 
 use crate::commands::{Command, find_command};
 use crate::endings::{Ending, Refusal, Status, finish};
 use crate::judging::judge_formula;
+use crate::monitoring::monitor_formula;
+use crate::showing::show_formula;
+use crate::translation::translate_formula;
 use bes_io::{Files, Sink, Source, Word};
 use std::alloc::Global;
 
@@ -24,6 +30,12 @@ fn perform<F: Files, S: Source, O: Sink>(
     ensures performs { Performs (needs_of words.now) (AnswersWith words.now) (MayRead words.now)
         (world (F.contents files.old) (F.failed files.old) (S.left input.old) (S.faults input.old) (O.held out.old) (O.faults out.old))
         (world (F.contents files.new) (F.failed files.new) (S.left input.new) (S.faults input.new) (O.held out.new) (O.faults out.new)) result }
+    ensures streams { (contents : Contents) (rest : List ℕ) →
+        Tells (needs_of words.now) (MayRead words.now) (world (F.contents files.old) (F.failed files.old) (S.left input.old) (S.faults input.old) (O.held out.old) (O.faults out.old)) contents rest →
+        IfNeeded (is_streaming (command_of words.now)) (Streams (AnswersWith words.now contents) rest
+        (world (F.contents files.old) (F.failed files.old) (S.left input.old) (S.faults input.old) (O.held out.old) (O.faults out.old))
+        (world (F.contents files.new) (F.failed files.new) (S.left input.new) (S.faults input.new) (O.held out.new) (O.faults out.new))) }
+    ensures served { IsTrue (is_streaming (command_of words.now)) → result ≡ Ending.NoMemory → input.new ≡ input.old }
     ensures usage { command_of words.now ≡ Command.Usage → result ≡ Ending.Refused Refusal.Usage }
     ensures unread { ¬ MayRead words.now → input.new ≡ input.old }
     ensures unopened { file_of (command_of words.now) words.now ≡ None → files.new ≡ files.old }
@@ -31,6 +43,11 @@ fn perform<F: Files, S: Source, O: Sink>(
     match find_command(words) {
         Command::Usage => Ending::Refused(Refusal::Usage),
         Command::Judge(dialect) => judge_formula(alloc, dialect, words[2].bytes(), input, out),
+        Command::Forms(dialect) => show_formula(alloc, dialect, words[2].bytes(), out),
+        Command::Translate(dialect) => translate_formula(alloc, dialect, words[2].bytes(), out),
+        Command::Monitor(dialect) => {
+            monitor_formula(alloc, dialect, words[2].bytes(), input, out)
+        }
     }
 }
 
@@ -54,6 +71,10 @@ pub fn run<F: Files, S: Source, O: Sink, E: Sink>(
         (E.held err.old) (E.held err.new) result.number }
     ensures one { (contents : Contents) (rest : List ℕ) (c d : Reply) → AnswersWith words.now contents rest c → AnswersWith words.now contents rest d → c ≡ d }
 
+    // What `translate` prints of a formula is the same for every formula with the same traces, and no automaton of these
+    // has fewer locations.
+    ensures only_automaton { (names : List (List ℕ)) (f : Formula) (text : List ℕ) (t : IsTranslation names f text) → IsOnlyAutomaton (length names) f t.automaton }
+
     // Status 7 comes only where a count rose, and of the place for messages only where one was asked for.
     ensures fault { HasFaultCause (needs_of words.now) (MayRead words.now)
         (world (F.contents files.old) (F.failed files.old) (S.left input.old) (S.faults input.old) (O.held out.old) (O.faults out.old))
@@ -74,6 +95,16 @@ pub fn run<F: Files, S: Source, O: Sink, E: Sink>(
         (world (F.contents files.new) (F.failed files.new) (S.left input.new) (S.faults input.new) (O.held out.new) (O.faults out.new))
         result.number }
     ensures nothing { result.number ≡ 8 → O.held out.new ≡ O.held out.old }
+
+    // Where the input fails, a command that writes as it reads has put what is due for the whole lines that were taken.
+    // Where the output fails, it failed at one line: what is due for the lines before the one that it needs was put, and
+    // fewer than 4,097 bytes were taken past that one. Once such a command reads, it takes no memory.
+    ensures streams { (contents : Contents) (rest : List ℕ) →
+        Tells (needs_of words.now) (MayRead words.now) (world (F.contents files.old) (F.failed files.old) (S.left input.old) (S.faults input.old) (O.held out.old) (O.faults out.old)) contents rest →
+        IfNeeded (is_streaming (command_of words.now)) (Streams (AnswersWith words.now contents) rest
+        (world (F.contents files.old) (F.failed files.old) (S.left input.old) (S.faults input.old) (O.held out.old) (O.faults out.old))
+        (world (F.contents files.new) (F.failed files.new) (S.left input.new) (S.faults input.new) (O.held out.new) (O.faults out.new))) }
+    ensures served { IsTrue (is_streaming (command_of words.now)) → result.number ≡ 8 → input.new ≡ input.old }
 
     // Where a count of the files, the input or the output rose the status is 7; where that of the place for messages
     // rose it is 7 or 8.

@@ -1,5 +1,5 @@
 //! The trace that the lines of the input give.
-ghost use Rattle.std.specs.Prelude.{◌≡◌, ℕ, ◌<◌, List, Option, Some, IsSome, IfOk, IfErr};
+ghost use Rattle.std.specs.Prelude.{◌≡◌, ◌≢◌, ℕ, ◌<◌, ◌^◌, List, length, Option, Some, IsSome, IfSome, IfOk, IfErr};
 ghost use Rattle.bes_io.specs.Reader.{input as input_of, allowed};
 ghost use Rattle.bes_suite.specs.Endings.{IsBeforeInput};
 ghost use Rattle.bes_suite.specs.Letters.{stopped, NextLetter, GivesTrace, HasTraceCause};
@@ -17,6 +17,7 @@ const MOST_INPUT: u64 = 1 << 26;
 fn stop(fault: LineFault, line: u64) -> Ending
     ensures ending { result ≡ stopped line fault }
     ensures late { ¬ IsBeforeInput result }
+    ensures served { result ≢ Ending.NoMemory }
 {
     match fault {
         LineFault::ReadFault => Ending::OutsideFault,
@@ -26,7 +27,7 @@ fn stop(fault: LineFault, line: u64) -> Ending
 }
 
 // The letter of the next line, which has this number; none at the end of the input.
-fn next_letter<S: Source>(
+pub fn next_letter<S: Source>(
     reader: &mut LineReader,
     names: &Names,
     line: u64,
@@ -36,7 +37,9 @@ fn next_letter<S: Source>(
         → NextLetter names.now.names line reader.old bytes result reader.new (S.left input.new) }
     ensures cause { HasTraceCause (S.faults input.old) (S.faults input.new) result }
     ensures progress { IfOk result (λ found. IsSome found → allowed reader.new < allowed reader.old) }
+    ensures small { IfOk result (λ found. IfSome found (λ letter. letter < 2 ^ length names.now.names)) }
     ensures late { IfErr result (λ ending. ¬ IsBeforeInput ending) }
+    ensures served { IfErr result (λ ending. ending ≢ Ending.NoMemory) }
 {
     match reader.next(input) {
         Ok(Found::Line) => match read_event(reader.line(), names, Mode::Ignore) {

@@ -1,12 +1,16 @@
-use Rattle.std.proofs.Common.{◌≡◌, refl, subst, List, ℕ, Some, Ok, Err}
+use Rattle.std.proofs.Common.{refl, subst, Ok, Err}
 use Rattle.forms.specs.Tree.{tree}
 use Rattle.bes_suite.specs.Judge.{GivesVerdict}
-use Rattle.bes_suite.proofs.JudgeLemmas.{formula-ends, input-ends, answered}
+use Rattle.bes_suite.specs.Judge.{JudgeAnswers, formula_refused}
+use Rattle.bes_suite.specs.Worlds.{needs_input}
+use Rattle.bes_suite.proofs.Performing.{formula-ends}
+use Rattle.bes_suite.proofs.JudgeLemmas.{input-ends, answered}
 use Rattle.bes_suite.proofs.judging.judge_formula.Goals as goal
 
 pub returns-in-Err-clause-performs : goal.returns-in-Err-clause-performs
 returns-in-Err-clause-performs g c contents failed =
-    formula-ends c.args.dialect c.args.text.now _ _ c.in-Err.ending c.in-Err.ensures.formula (record { reads = refl; puts = refl; failed = refl }) refl
+    formula-ends needs_input (λ files rest. JudgeAnswers c.args.dialect c.args.text.now rest) _ _ _ c.args.dialect c.args.text.now
+    (λ fault why files rest. formula_refused why) (λ may. may) c.in-Err.ending c.in-Err.ensures.formula (record { reads = refl; puts = refl; failed = refl }) refl
 
 pub returns-in-Ok-judge_input-clause-performs : goal.returns-in-Ok-judge_input-clause-performs
 returns-in-Ok-judge_input-clause-performs g c contents failed =

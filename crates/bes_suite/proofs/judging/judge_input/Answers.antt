@@ -1,4 +1,3 @@
-use Rattle.std.proofs.Common.{◌≡◌}
 use Rattle.forms.specs.Tree.{tree}
 use Rattle.bes_suite.proofs.JudgeLemmas.{gives-ending}
 use Rattle.bes_suite.proofs.judging.judge_input.Goals as goal

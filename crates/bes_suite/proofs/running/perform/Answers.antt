@@ -4,11 +4,16 @@ use Rattle.bes_suite.specs.declared.endings.Refusal.TheVariants.{Usage}
 use Rattle.bes_suite.specs.declared.commands.Command.TheVariants as command
 use Rattle.forms.specs.Tree.{Formula}
 use Rattle.bes_suite.specs.Commands.{word_at}
-use Rattle.bes_suite.specs.Judge.{JudgeAnswers, IsFormula}
+use Rattle.bes_suite.specs.Formulas.{IsFormula}
+use Rattle.bes_suite.specs.Judge.{JudgeAnswers}
+use Rattle.bes_suite.specs.Showing.{FormsAnswers}
+use Rattle.bes_suite.specs.Translation.{TranslateAnswers}
+use Rattle.bes_suite.specs.Monitoring.{MonitorAnswers, IsWatchable}
 use Rattle.bes_suite.specs.Answers.{AnswersAs, MayReadAs}
-use Rattle.bes_suite.specs.Worlds.{Performs, needs_input, world}
+use Rattle.bes_suite.specs.Streams.{Streams}
+use Rattle.bes_suite.specs.Worlds.{Performs, needs_input, needs_nothing, world}
 use Rattle.bes_suite.proofs.Performing.{refusal}
-use Rattle.bes_suite.proofs.RunLemmas.{performs-as, needs_as}
+use Rattle.bes_suite.proofs.RunLemmas.{performs-as, streams-as, needs_as}
 use Rattle.bes_suite.proofs.running.perform.Goals as goal
 
 pub returns-in-Usage-clause-performs : goal.returns-in-Usage-clause-performs
@@ -25,3 +30,43 @@ returns-in-Judge-clause-performs g c =
     (world (g.F.Files.contents c.args.files.now) (g.F.Files.failed c.args.files.now) (g.S.Source.left c.args.input.now) (g.S.Source.faults c.args.input.now) (g.O.Sink.held c.args.out.now) (g.O.Sink.faults c.args.out.now))
     (world (g.F.Files.contents c.args.files.now) (g.F.Files.failed c.args.files.now) (g.S.Source.left c.judge_formula.new.input) (g.S.Source.faults c.judge_formula.new.input) (g.O.Sink.held c.judge_formula.new.out) (g.O.Sink.faults c.judge_formula.new.out))
     c.judge_formula.result) text (c.judge_formula.ensures.performs _ _))
+
+pub returns-in-Forms-clause-performs : goal.returns-in-Forms-clause-performs
+returns-in-Forms-clause-performs g c =
+    let many : 2 < length c.args.words.now = search rules in
+    let text : c.bytes-in-Forms.result.now ≡ word_at c.args.words.now 2 = c.bytes-in-Forms.ensures ∙ c.index-words-2-in-Forms.is ∙ get_or_default c.args.words.now 2 c.index-words-2-in-Forms.result [] many in
+    performs-as c.args.words.now (command.Forms c.in-Forms.dialect) (sym (sym c.find_command.ensures ∙ c.in-Forms.is)) _ _ _
+    (subst (λ t. Performs needs_nothing (λ files rest. FormsAnswers c.in-Forms.dialect t) ⊥
+    (world (g.F.Files.contents c.args.files.now) (g.F.Files.failed c.args.files.now) (g.S.Source.left c.args.input.now) (g.S.Source.faults c.args.input.now) (g.O.Sink.held c.args.out.now) (g.O.Sink.faults c.args.out.now))
+    (world (g.F.Files.contents c.args.files.now) (g.F.Files.failed c.args.files.now) (g.S.Source.left c.args.input.now) (g.S.Source.faults c.args.input.now) (g.O.Sink.held c.show_formula.new.out) (g.O.Sink.faults c.show_formula.new.out))
+    c.show_formula.result) text (c.show_formula.ensures.performs _ _ _ _))
+
+pub returns-in-Translate-clause-performs : goal.returns-in-Translate-clause-performs
+returns-in-Translate-clause-performs g c =
+    let many : 2 < length c.args.words.now = search rules in
+    let text : c.bytes-in-Translate.result.now ≡ word_at c.args.words.now 2 = c.bytes-in-Translate.ensures ∙ c.index-words-2-in-Translate.is ∙ get_or_default c.args.words.now 2 c.index-words-2-in-Translate.result [] many in
+    performs-as c.args.words.now (command.Translate c.in-Translate.dialect) (sym (sym c.find_command.ensures ∙ c.in-Translate.is)) _ _ _
+    (subst (λ t. Performs needs_nothing (λ files rest. TranslateAnswers c.in-Translate.dialect t) ⊥
+    (world (g.F.Files.contents c.args.files.now) (g.F.Files.failed c.args.files.now) (g.S.Source.left c.args.input.now) (g.S.Source.faults c.args.input.now) (g.O.Sink.held c.args.out.now) (g.O.Sink.faults c.args.out.now))
+    (world (g.F.Files.contents c.args.files.now) (g.F.Files.failed c.args.files.now) (g.S.Source.left c.args.input.now) (g.S.Source.faults c.args.input.now) (g.O.Sink.held c.translate_formula.new.out) (g.O.Sink.faults c.translate_formula.new.out))
+    c.translate_formula.result) text (c.translate_formula.ensures.performs _ _ _ _))
+
+pub returns-in-Monitor-clause-performs : goal.returns-in-Monitor-clause-performs
+returns-in-Monitor-clause-performs g c =
+    let many : 2 < length c.args.words.now = search rules in
+    let text : c.bytes-in-Monitor.result.now ≡ word_at c.args.words.now 2 = c.bytes-in-Monitor.ensures ∙ c.index-words-2-in-Monitor.is ∙ get_or_default c.args.words.now 2 c.index-words-2-in-Monitor.result [] many in
+    performs-as c.args.words.now (command.Monitor c.in-Monitor.dialect) (sym (sym c.find_command.ensures ∙ c.in-Monitor.is)) _ _ _
+    (subst (λ t. Performs needs_input (λ files rest. MonitorAnswers c.in-Monitor.dialect t rest) (IsWatchable c.in-Monitor.dialect t)
+    (world (g.F.Files.contents c.args.files.now) (g.F.Files.failed c.args.files.now) (g.S.Source.left c.args.input.now) (g.S.Source.faults c.args.input.now) (g.O.Sink.held c.args.out.now) (g.O.Sink.faults c.args.out.now))
+    (world (g.F.Files.contents c.args.files.now) (g.F.Files.failed c.args.files.now) (g.S.Source.left c.monitor_formula.new.input) (g.S.Source.faults c.monitor_formula.new.input) (g.O.Sink.held c.monitor_formula.new.out) (g.O.Sink.faults c.monitor_formula.new.out))
+    c.monitor_formula.result) text (c.monitor_formula.ensures.performs _ _))
+
+pub returns-in-Monitor-clause-streams : goal.returns-in-Monitor-clause-streams
+returns-in-Monitor-clause-streams g c contents rest =
+    let many : 2 < length c.args.words.now = search rules in
+    let text : c.bytes-in-Monitor.result.now ≡ word_at c.args.words.now 2 = c.bytes-in-Monitor.ensures ∙ c.index-words-2-in-Monitor.is ∙ get_or_default c.args.words.now 2 c.index-words-2-in-Monitor.result [] many in
+    streams-as c.args.words.now (command.Monitor c.in-Monitor.dialect) (sym (sym c.find_command.ensures ∙ c.in-Monitor.is)) contents rest _ _
+    (λ tells. subst (λ t. Streams (MonitorAnswers c.in-Monitor.dialect t) rest
+    (world (g.F.Files.contents c.args.files.now) (g.F.Files.failed c.args.files.now) (g.S.Source.left c.args.input.now) (g.S.Source.faults c.args.input.now) (g.O.Sink.held c.args.out.now) (g.O.Sink.faults c.args.out.now))
+    (world (g.F.Files.contents c.args.files.now) (g.F.Files.failed c.args.files.now) (g.S.Source.left c.monitor_formula.new.input) (g.S.Source.faults c.monitor_formula.new.input) (g.O.Sink.held c.monitor_formula.new.out) (g.O.Sink.faults c.monitor_formula.new.out)))
+    text (c.monitor_formula.ensures.streams _ _ rest (λ may. tells.told_input (subst (IsWatchable c.in-Monitor.dialect) text may))))

@@ -1,7 +1,7 @@
-use Rattle.std.proofs.Common.{◌≡◌}
 use Rattle.bes_suite.specs.Answers.{AnswersWith, MayRead}
 use Rattle.bes_suite.specs.Worlds.{world, needs_of}
 use Rattle.bes_suite.proofs.Unique.{one-reply}
+use Rattle.bes_suite.proofs.TranslationLemmas.{only-automaton}
 use Rattle.bes_suite.proofs.RunLemmas.{answers, message-cause, partly}
 use Rattle.bes_suite.proofs.running.run.Goals as goal
 
@@ -31,3 +31,6 @@ returns-clause-unheard g c contents rest tells =
     (world (g.F.Files.contents c.perform-ending.new.files) (g.F.Files.failed c.perform-ending.new.files) (g.S.Source.left c.perform-ending.new.input) (g.S.Source.faults c.perform-ending.new.input) (g.O.Sink.held c.perform-ending.new.out) (g.O.Sink.faults c.perform-ending.new.out))
     (g.E.Sink.held c.args.err.now) (g.E.Sink.held c.finish.new.err) (g.E.Sink.faults c.args.err.now) (g.E.Sink.faults c.finish.new.err) c.finish.result.number
     c.perform-ending.result (c.perform-ending.ensures.performs.adds contents rest tells) c.perform-ending.ensures.performs.counts c.finish.ensures.finishes
+
+pub returns-clause-only_automaton : goal.returns-clause-only_automaton
+returns-clause-only_automaton g c names f text t = only-automaton names f text t

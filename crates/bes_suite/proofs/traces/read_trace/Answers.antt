@@ -1,4 +1,4 @@
-use Rattle.std.proofs.Common.{◌≡◌, ◌+◌, ◌≤◌, ◌<◌, ◌++◌, ◌∷◌, [], length, ◌∙◌, ap, refl, subst, sym, arith, Ok, Err, Some, None, List, ℕ, IsSome, length-append}
+use Rattle.std.proofs.Common.{◌≡◌, ◌+◌, ◌≤◌, ◌<◌, ◌++◌, ◌∷◌, [], length, ◌∙◌, ap, refl, subst, sym, arith, Ok, Some, length-append}
 use Rattle.bes_io.specs.Reader.{allowed}
 use Rattle.bes_suite.proofs.TraceLemmas.{SoFar, start, more-letters, all-letters, letters-stopped, same-faults, falls}
 use Rattle.bes_suite.proofs.traces.read_trace.Goals as goal

@@ -1,0 +1,43 @@
+-- Texts worked out by hand, so that a wrong rule in the definitions does not check.
+use Rattle.std.proofs.Common.{◌≡◌, refl, [], ◌∷◌, ◌++◌, List, ℕ}
+use Rattle.std.specs.Prelude.{codes}
+use Rattle.forms.specs.Tree.{Formula, Atom, Not, Implies, Iff, Until, Diamond, Test, Seq, Step}
+use Rattle.bes_suite.specs.Showing.{shown}
+use Rattle.bes_suite.specs.AutomatonText.{name_list, letter_text, word_line}
+
+abbrev names : List (List ℕ)
+names = codes "a" ∷ codes "b" ∷ []
+
+abbrev a : Formula
+a = Atom 0
+
+abbrev b : Formula
+b = Atom 1
+
+iff_negates_its_first_operand : shown names (Not (Iff a b)) ≡ codes "form !(a <-> b)\nnnf (!a <-> b)\n"
+iff_negates_its_first_operand = refl
+
+until_becomes_release : shown names (Not (Until a b)) ≡ codes "form !(a U b)\nnnf (!a R !b)\n"
+until_becomes_release = refl
+
+implication_becomes_or : shown names (Not (Implies a b)) ≡ codes "form !(a -> b)\nnnf (a & !b)\n"
+implication_becomes_or = refl
+
+tests_are_turned_and_steps_are_not : shown names (Not (Diamond (Seq (Test (Implies a b)) (Step (Implies a b))) b))
+    ≡ codes "form !<({(a -> b)}? ; {(a -> b)})>b\nnnf [({(!a | b)}? ; {(a -> b)})]!b\n"
+tests_are_turned_and_steps_are_not = refl
+
+empty_word : word_line 2 [] ≡ codes "word empty\n"
+empty_word = refl
+
+letters_have_the_first_proposition_first : word_line 2 (2 ∷ 1 ∷ []) ≡ codes "word 10 01\n"
+letters_have_the_first_proposition_first = refl
+
+letters_of_no_proposition : word_line 0 (0 ∷ 0 ∷ []) ≡ codes "word . .\n"
+letters_of_no_proposition = refl
+
+no_names : name_list [] 0 ≡ []
+no_names = refl
+
+two_names : name_list names 2 ≡ codes " a b"
+two_names = refl

@@ -1,0 +1,130 @@
+-- A formula is translated in one way.
+use Rattle.std.proofs.Common.{◌≡◌, ℕ, ◌≤◌, List, zero, suc, ◌++◌, refl, sym, ◌∙◌, ap, subst, length}
+use Rattle.std.specs.Prelude.{slice_index, All}
+use Rattle.std.proofs.lemmas.List.{ext_get_or}
+use Rattle.forms.specs.Tree.{Formula}
+use Rattle.forms.specs.Word.{Word, Claim, IsOver}
+use Rattle.forms.specs.Equivalence.{HasClassCount}
+use Rattle.forms.specs.Parts.{part}
+use Rattle.forms.specs.Satisfaction.{meets}
+use Rattle.diagrams.specs.declared.cubes.Cube.{Cube}
+use Rattle.diagrams.specs.Eval.{Diagrams, eval}
+use Rattle.automata.specs.Moves.{Moves}
+use Rattle.automata.specs.Table.{Table, size_of, mark_of, row_of, Fits, moves_of}
+use Rattle.automata.specs.Listing as listing
+use Rattle.automata.specs.Listing.{Lists, location_line, round_lines}
+use Rattle.minimise.specs.Least.{IsLeastFor, AreTheSame}
+use Rattle.minimise.proofs.Counts.{size_is_class_count}
+use Rattle.minimise.proofs.Once.{class_count_is_one}
+use Rattle.minimise.proofs.Unique.{least_is_unique}
+use Rattle.minimise.proofs.Smallest.{least_is_smallest}
+use Rattle.translate.specs.Exact.{IsLeastOf}
+use Rattle.translate.specs.Counting.{AreCounts, IsFirstOver, IfTooMany, claim_of}
+use Rattle.translate.proofs.CountLemmas.{first_over_is_not_within}
+use Rattle.translate.proofs.MeantLemmas.{agree_of, decides_of}
+use Rattle.distinguish.specs.Telling.{IsTellingList}
+use Rattle.distinguish.proofs.Unique.{telling_list_is_unique}
+use Rattle.form_reader.specs.declared.dialect.Dialect.{Dialect}
+use Rattle.translate.specs.declared.fault.TranslateFault.{TranslateFault}
+use Rattle.translate.specs.declared.fault.TranslateFault.TheVariants.{TooMany, Memory}
+use Rattle.bes_suite.specs.declared.endings.Refusal.TheVariants as refused
+use Rattle.bes_suite.specs.Formulas.{IsFormula, names_of}
+use Rattle.bes_suite.specs.Worlds.{World, needs_nothing, Performs, KeepsCounts}
+use Rattle.bes_suite.specs.Limits.{most_classes, ending_at_limit}
+use Rattle.bes_suite.specs.Translation.{TranslateAnswers, too_many, IsTranslation, IsOnlyAutomaton}
+use Rattle.bes_suite.proofs.Performing.{refusal, no-memory}
+use Rattle.bes_suite.specs.AutomatonText.{location_lines, ListsMoves, automaton_text}
+use Rattle.bes_suite.proofs.TextLemmas.{lists-one}
+
+-- the parts of a formula have one list of counts
+counts-one : (p : ℕ) (f : Formula) (xs ys : List ℕ) → AreCounts p f xs → AreCounts p f ys → xs ≡ ys
+counts-one p f xs ys x y =
+    let size : length xs ≡ length ys = x.size ∙ sym y.size in
+    ext_get_or 0 xs ys size
+    (λ i h. class_count_is_one p (claim_of p f (part f (suc i))) (slice_index xs i) (slice_index ys i) (x.count i h) (y.count i (rw (sym size) h)))
+
+-- claims with the same traces have one least automaton
+least-one : (p : ℕ) (f g : Claim) (m n : Moves) → ((w : Word) → IsOver p w → f w ≡ g w) → IsLeastFor p m f → IsLeastFor p n g → AreTheSame p m n
+least-one p f g m n e x y =
+    least_is_unique p m n x.least x.numbered y.least y.numbered (agree_of p m n f g x.least.closed y.least.closed x.decides y.decides e)
+
+-- the automaton of a translation is the only one, and none is smaller
+pub only-automaton : (names : List (List ℕ)) (f : Formula) (text : List ℕ) (t : IsTranslation names f text) → IsOnlyAutomaton (length names) f t.automaton
+only-automaton names f text t =
+    let p = length names in
+    record {
+      unique = λ g n same l. least-one p g (λ w. meets p f w) n t.automaton same l t.least;
+      smallest = λ n closed decides.
+          least_is_smallest p t.automaton n t.least.least closed
+          (agree_of p t.automaton n (λ w. meets p f w) (λ w. meets p f w) t.least.least.closed closed t.least.decides decides (λ w o. refl));
+    }
+
+-- a formula has one text
+pub translation-one : (names : List (List ℕ)) (f : Formula) (xs ys : List ℕ) → IsTranslation names f xs → IsTranslation names f ys → xs ≡ ys
+translation-one names f xs ys x y =
+    let p = length names in
+    let counts = counts-one p f x.counts y.counts x.counted y.counted in
+    let automata = least-one p (λ w. meets p f w) (λ w. meets p f w) x.automaton y.automaton (λ w o. refl) x.least y.least in
+    let words = telling_list_is_unique p x.automaton y.automaton x.words y.words x.least.least.closed automata x.telling y.telling in
+    let tables = lists-one p x.automaton y.automaton automata x.table y.table x.lists y.lists in
+    x.whole
+    ∙ ap (λ z. automaton_text names f z x.automaton.size x.table x.words) counts
+    ∙ ap (λ z. automaton_text names f y.counts z x.table x.words) automata.size
+    ∙ ap (λ z. automaton_text names f y.counts y.automaton.size z x.words) tables
+    ∙ ap (λ z. automaton_text names f y.counts y.automaton.size y.table z) words
+    ∙ sym y.whole
+
+-- a formula that is over the limit has no text
+pub over-or-translated : (names : List (List ℕ)) (f : Formula) (part count : ℕ) (text : List ℕ) → IsFirstOver (length names) f most_classes part count → IsTranslation names f text → ⊥
+over-or-translated names f part count text over t =
+    first_over_is_not_within (length names) f most_classes part count t.automaton.size t.counts over t.counted t.within
+    (size_is_class_count (length names) t.automaton (λ w. meets (length names) f w) t.least.least t.least.decides) t.small
+
+same_lines : (s : Diagrams) (t : Table) (cubes : ℕ → List Cube) (n : ℕ) → listing.location_lines t cubes n ≡ location_lines (moves_of s t) cubes n
+same_lines s t cubes zero = refl
+same_lines s t cubes (suc n) = ap (λ z. z ++ location_line n (mark_of t n) ++ round_lines (cubes n)) (same_lines s t cubes n)
+
+-- the lines of a table are those of what it does
+pub lists_moves : (s : Diagrams) (t : Table) (text : List ℕ) → Fits s t → Lists s t (size_of t) text → ListsMoves s.props (moves_of s t) text
+lists_moves s t text fits l = record {
+  cubes = l.cubes;
+  rows = λ at h. record {
+    value = eval s (row_of t at);
+    letters = λ letter small. refl;
+    over = (fits at h).letters;
+    plain = (l.rows at h).0;
+    are = (l.rows at h).1;
+    shown = (l.rows at h).2;
+  };
+  lines = l.lines ∙ same_lines s t l.cubes (size_of t);
+}
+
+-- a formula's text, by its automaton in a store
+pub translation_of : (p : ℕ) (names : List (List ℕ)) (f : Formula) (n : Diagrams) (t : Table) (counts : List ℕ) (words : List Word) (table text : List ℕ)
+    → p ≡ length names → n.props ≡ p → AreCounts p f counts → All (λ count. count ≤ most_classes) counts → IsLeastOf n t (λ w. meets p f w) → size_of t ≤ most_classes
+    → Lists n t (size_of t) table → IsTellingList n.props (moves_of n t) words → text ≡ automaton_text names f counts (size_of t) table words → IsTranslation names f text
+translation_of p names f n t counts words table text e d counted within least small lists telling whole = record {
+  counts = counts;
+  counted = subst (λ q. AreCounts q f counts) e counted;
+  within = within;
+  automaton = moves_of n t;
+  least = subst (λ q. IsLeastFor q (moves_of n t) (λ w. meets q f w)) e own;
+  whole_count = subst (λ q. HasClassCount q (λ w. meets q f w) (size_of t)) e (size_is_class_count p (moves_of n t) (λ w. meets p f w) own.least own.decides);
+  small = small;
+  words = words;
+  telling = subst (λ q. IsTellingList q (moves_of n t) words) (d ∙ e) telling;
+  table = table;
+  lists = subst (λ q. ListsMoves q (moves_of n t) table) (d ∙ e) (lists_moves n t table least.fits lists);
+  whole = whole;
+}
+  where
+    own : IsLeastFor p (moves_of n t) (λ w. meets p f w)
+    own = subst (λ q. IsLeastFor q (moves_of n t) (λ w. meets p f w)) d
+        (record { least = least.least; numbered = least.numbered; decides = decides_of n t (λ w. meets p f w) least })
+
+-- a formula over the limit ends the run
+pub limit-ends : (dialect : Dialect) (text : List ℕ) (before after : World) (f : Formula) → IsFormula dialect text f → (fault : TranslateFault) → IfTooMany fault (IsFirstOver (length (names_of dialect text)) f most_classes)
+    → KeepsCounts before after → after.held ≡ before.held → Performs needs_nothing (λ files rest. TranslateAnswers dialect text) ⊥ before after (ending_at_limit fault)
+limit-ends dialect text before after f is (TooMany part count) over keeps held =
+    refusal needs_nothing (λ files rest. TranslateAnswers dialect text) ⊥ before after (refused.TooMany part count) (λ files rest tells. too_many f is over) (λ early may. may) keeps held
+limit-ends dialect text before after f is Memory over keeps held = no-memory needs_nothing (λ files rest. TranslateAnswers dialect text) ⊥ before after keeps held

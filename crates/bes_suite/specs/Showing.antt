@@ -1,0 +1,22 @@
+-- What `forms` says of a formula.
+use Rattle.std.specs.Prelude.{ℕ, List, ◌++◌, codes}
+use Rattle.forms.specs.Tree.{Formula}
+use Rattle.forms.specs.Normal.{normal}
+use Rattle.form_reader.specs.declared.dialect.Dialect.{Dialect}
+use Rattle.form_reader.specs.declared.fault.FormFault.{FormFault}
+use Rattle.form_reader.specs.Printed.{printed}
+use Rattle.bes_suite.specs.declared.endings.Ending.TheVariants.{Positive}
+use Rattle.bes_suite.specs.declared.endings.Refusal.TheVariants as refusal
+use Rattle.bes_suite.specs.Replies.{Reply, refusing}
+use Rattle.bes_suite.specs.Formulas.{IsFormula, IsRefused, names_of}
+
+-- the formula as it was read, and its negation normal form
+abbrev pub shown : List (List ℕ) → Formula → List ℕ
+shown names f = codes "form " ++ printed names f ++ codes "\nnnf " ++ printed names (normal f) ++ codes "\n"
+
+-- the formula is refused, or its two lines are shown
+pub data FormsAnswers : Dialect → List ℕ → Reply → Type 0 where
+  formula_refused : {dialect : Dialect} {text : List ℕ} {fault : FormFault} →
+      IsRefused dialect text fault → FormsAnswers dialect text (refusing (refusal.Formula fault))
+  formula_shown : {dialect : Dialect} {text : List ℕ} (f : Formula) →
+      IsFormula dialect text f → FormsAnswers dialect text (record { output = shown (names_of dialect text) f; ending = Positive })

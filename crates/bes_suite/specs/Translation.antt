@@ -1,0 +1,50 @@
+-- What `translate` says of a formula.
+use Rattle.std.specs.Prelude.{◌≡◌, ℕ, ◌≤◌, List, All, length}
+use Rattle.forms.specs.Tree.{Formula}
+use Rattle.forms.specs.Word.{Word, Claim, IsOver}
+use Rattle.forms.specs.Equivalence.{HasClassCount}
+use Rattle.forms.specs.Satisfaction.{meets}
+use Rattle.form_reader.specs.declared.dialect.Dialect.{Dialect}
+use Rattle.form_reader.specs.declared.fault.FormFault.{FormFault}
+use Rattle.automata.specs.Moves.{Moves, IsClosed}
+use Rattle.minimise.specs.Least.{IsLeastFor, Decides, AreTheSame}
+use Rattle.translate.specs.Counting.{AreCounts, IsFirstOver}
+use Rattle.distinguish.specs.Telling.{IsTellingList}
+use Rattle.bes_suite.specs.declared.endings.Ending.TheVariants.{Positive}
+use Rattle.bes_suite.specs.declared.endings.Refusal.TheVariants as refusal
+use Rattle.bes_suite.specs.Replies.{Reply, refusing}
+use Rattle.bes_suite.specs.Formulas.{IsFormula, IsRefused, names_of}
+use Rattle.bes_suite.specs.Limits.{most_classes}
+use Rattle.bes_suite.specs.AutomatonText.{ListsMoves, automaton_text}
+
+-- The text of a formula's automaton: the class counts of its parts and of its whole, the least automaton of its traces, numbered by least
+-- words, and the words that tell its locations apart.
+pub record IsTranslation (names : List (List ℕ)) (f : Formula) (text : List ℕ) : Type 0 where
+  pub counts : List ℕ
+  pub counted : AreCounts (length names) f counts
+  pub within : All (λ count. count ≤ most_classes) counts
+  pub automaton : Moves
+  pub least : IsLeastFor (length names) automaton (λ w. meets (length names) f w)
+  pub whole_count : HasClassCount (length names) (λ w. meets (length names) f w) automaton.size
+  pub small : automaton.size ≤ most_classes
+  pub words : List Word
+  pub telling : IsTellingList (length names) automaton words
+  pub table : List ℕ
+  pub lists : ListsMoves (length names) automaton table
+  pub whole : text ≡ automaton_text names f counts automaton.size table words
+
+-- the automaton is the same for every claim with the formula's traces, and no automaton that decides them has fewer locations
+pub record IsOnlyAutomaton (p : ℕ) (f : Formula) (m : Moves) : Type 0 where
+  pub unique : (g : Claim) (n : Moves) → ((w : Word) → IsOver p w → g w ≡ meets p f w) → IsLeastFor p n g → AreTheSame p n m
+  pub smallest : (n : Moves) → IsClosed p n → Decides p n (λ w. meets p f w) → m.size ≤ n.size
+
+-- in the order of refusals: the formula, the limit
+pub data TranslateAnswers : Dialect → List ℕ → Reply → Type 0 where
+  formula_refused : {dialect : Dialect} {text : List ℕ} {fault : FormFault} →
+      IsRefused dialect text fault → TranslateAnswers dialect text (refusing (refusal.Formula fault))
+  too_many : {dialect : Dialect} {text : List ℕ} {part count : ℕ} (f : Formula) →
+      IsFormula dialect text f → IsFirstOver (length (names_of dialect text)) f most_classes part count →
+      TranslateAnswers dialect text (refusing (refusal.TooMany part count))
+  translated : {dialect : Dialect} {text output : List ℕ} (f : Formula) →
+      IsFormula dialect text f → IsTranslation (names_of dialect text) f output →
+      TranslateAnswers dialect text (record { output = output; ending = Positive })

@@ -1,0 +1,52 @@
+//! The command `forms`.
+ghost use Rattle.std.specs.Prelude.{◌≡◌, ℕ, List, length, Option, IfOk};
+ghost use Rattle.forms.specs.Tree.{tree};
+ghost use Rattle.forms.specs.Proper.{IsProper};
+ghost use Rattle.bes_suite.specs.Showing.{FormsAnswers, shown};
+ghost use Rattle.bes_suite.specs.Answers.{Contents};
+ghost use Rattle.bes_suite.specs.Worlds.{world, needs_nothing, Performs};
+
+use crate::endings::Ending;
+use crate::formulas::read_formula;
+use crate::putting::put_all;
+use bes_io::{Memory, Sink, Text};
+use form_reader::{Dialect, Names, print_form};
+use forms::{Form, nnf};
+use std::alloc::Global;
+
+// The two lines of a formula.
+fn shown_text(alloc: Global, form: &Form, names: &Names) -> Result<Text, Memory>
+    requires { IsProper (length names.now.names) (tree form.now) }
+    ensures { IfOk result (λ text. text ≡ shown names.now.names (tree form.now)) }
+{
+    let normal = nnf(alloc, form)?;
+    let read = print_form(alloc, form, names)?;
+    let pushed = print_form(alloc, &normal, names)?;
+    let mut text = Text::new(alloc);
+    text.push(b"form ")?;
+    text.push(read.bytes())?;
+    text.push(b"\nnnf ")?;
+    text.push(pushed.bytes())?;
+    text.push(b"\n")?;
+    Ok(text)
+}
+
+/// Puts the formula as it was read, and its negation normal form.
+pub fn show_formula<O: Sink>(alloc: Global, dialect: Dialect, text: &[u8], out: &mut O) -> Ending
+    ensures performs { (contents : Option Contents) (failed : List (List ℕ)) (left : Option (List ℕ)) (reads : ℕ) →
+        Performs needs_nothing (λ files rest. FormsAnswers dialect text.now) ⊥
+        (world contents failed left reads (O.held out.old) (O.faults out.old))
+        (world contents failed left reads (O.held out.new) (O.faults out.new)) result }
+{
+    let Ok(mut names) = Names::new(alloc) else {
+        return Ending::NoMemory;
+    };
+    let form = match read_formula(alloc, dialect, text, &mut names) {
+        Ok(form) => form,
+        Err(ending) => return ending,
+    };
+    match shown_text(alloc, &form, &names) {
+        Ok(text) => put_all(text.bytes(), Ending::Positive, out),
+        Err(_) => Ending::NoMemory,
+    }
+}

@@ -1,0 +1,70 @@
+//! The command `translate`.
+ghost use Rattle.std.specs.Prelude.{◌≡◌, ◌<◌, ◌^◌, ℕ, List, length, Option, MatchResult};
+ghost use Rattle.forms.specs.Tree.{Formula, tree, nodes};
+ghost use Rattle.forms.specs.Proper.{IsProper};
+ghost use Rattle.translate.specs.Counting.{IfTooMany, IsFirstOver};
+ghost use Rattle.bes_suite.specs.Limits.{most_classes};
+ghost use Rattle.bes_suite.specs.Translation.{TranslateAnswers, IsTranslation};
+ghost use Rattle.bes_suite.specs.Answers.{Contents};
+ghost use Rattle.bes_suite.specs.Worlds.{world, needs_nothing, Performs};
+
+use crate::automaton_text::whole_text;
+use crate::endings::Ending;
+use crate::formulas::read_formula;
+use crate::limits::{MOST_CLASSES, limit_ending};
+use crate::putting::put_all;
+use automata::print_table;
+use bes_io::{Memory, Sink, Text};
+use diagrams::Store;
+use distinguish::telling_words;
+use form_reader::{Dialect, Names};
+use forms::Form;
+use std::alloc::Global;
+use translate::{TranslateFault, translate};
+
+// The text of the formula's automaton.
+fn translation_text(alloc: Global, form: &Form, names: &Names) -> Result<Text, TranslateFault>
+    requires proper { IsProper (length names.now.names) (tree form.now) }
+    requires small { nodes (tree form.now) < 2 ^ 32 }
+    ensures { MatchResult result (λ text. IsTranslation names.now.names (tree form.now) text) (λ fault. IfTooMany fault (IsFirstOver (length names.now.names) (tree form.now) most_classes)) }
+{
+    let mut store = Store::new(alloc, names.len())?;
+    let made = translate(alloc, &mut store, form, MOST_CLASSES)?;
+    let table = print_table(alloc, &store, &made.whole)?;
+    let words = telling_words(alloc, &mut store, &made.whole)?;
+    let text = whole_text(
+        alloc,
+        form,
+        names,
+        &made.counts,
+        made.whole.size(),
+        &table,
+        &words,
+    )?;
+    Ok(text)
+}
+
+/// Puts the text of the formula's automaton.
+pub fn translate_formula<O: Sink>(
+    alloc: Global,
+    dialect: Dialect,
+    text: &[u8],
+    out: &mut O,
+) -> Ending
+    ensures performs { (contents : Option Contents) (failed : List (List ℕ)) (left : Option (List ℕ)) (reads : ℕ) →
+        Performs needs_nothing (λ files rest. TranslateAnswers dialect text.now) ⊥
+        (world contents failed left reads (O.held out.old) (O.faults out.old))
+        (world contents failed left reads (O.held out.new) (O.faults out.new)) result }
+{
+    let Ok(mut names) = Names::new(alloc) else {
+        return Ending::NoMemory;
+    };
+    let form = match read_formula(alloc, dialect, text, &mut names) {
+        Ok(form) => form,
+        Err(ending) => return ending,
+    };
+    match translation_text(alloc, &form, &names) {
+        Ok(text) => put_all(text.bytes(), Ending::Positive, out),
+        Err(fault) => limit_ending(fault),
+    }
+}
