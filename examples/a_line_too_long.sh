@@ -1,0 +1,1 @@
+printf '%4097s\n' a | bes judge ltlf 'F a'

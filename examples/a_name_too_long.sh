@@ -1,0 +1,1 @@
+bes forms ltlf "a & $(printf 'x%.0s' $(seq 65))"

@@ -1,0 +1,1 @@
+bes judge ltlf 'F a' < examples/a_refused_line.trace

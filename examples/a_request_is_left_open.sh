@@ -1,0 +1,1 @@
+bes judge ltlf 'G(request -> F grant)' < examples/a_request_is_left_open.trace

@@ -1,0 +1,1 @@
+bes translate ltlf '(G(a -> F b)) & !(G(a -> X b))' | awk -f examples/least_trace.awk

@@ -1,0 +1,1 @@
+bes judge ltlf 'a &'

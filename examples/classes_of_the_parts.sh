@@ -1,0 +1,1 @@
+bes translate ltlf 'F a & F b & F c' | grep -E '^(part|whole)'

@@ -1,0 +1,1 @@
+bes translate ltlf '!((G F a) <-> (F G a))' | grep -x 'whole 1'

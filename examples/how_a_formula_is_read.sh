@@ -1,0 +1,1 @@
+bes forms ltlf '!(a U X b)'

@@ -1,0 +1,1 @@
+bes forms ltlf 'a -> b -> c | d & e U f'

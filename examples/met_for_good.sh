@@ -1,0 +1,1 @@
+bes monitor ltlf 'F a' < examples/met_for_good.trace

@@ -1,0 +1,1 @@
+bes forms ldlf '!<(a? ; {b -> c})*> !d'

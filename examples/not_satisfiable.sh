@@ -1,0 +1,1 @@
+bes translate ltlf 'G a & F !a' | grep -x 'whole 1'

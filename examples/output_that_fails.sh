@@ -1,0 +1,1 @@
+bes forms ltlf 'F a' > /dev/full

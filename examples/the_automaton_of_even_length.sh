@@ -1,0 +1,1 @@
+bes translate ldlf '<(true;true)*> end'

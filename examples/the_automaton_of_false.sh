@@ -1,0 +1,1 @@
+bes translate ltlf 'false'

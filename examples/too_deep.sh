@@ -1,0 +1,1 @@
+bes forms ltlf "$(printf 'X %.0s' $(seq 301))a"

@@ -1,0 +1,1 @@
+bes forms ltlf "$(printf 'n%d | ' $(seq 32))n33"

@@ -1,0 +1,1 @@
+bes forms ltlf "$(printf '(((a))) & %.0s' $(seq 250))a"

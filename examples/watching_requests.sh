@@ -1,0 +1,1 @@
+bes monitor ltlf 'G(request -> F grant)' < examples/watching_requests.trace

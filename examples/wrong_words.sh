@@ -1,0 +1,1 @@
+bes judge mtl 'F a'
