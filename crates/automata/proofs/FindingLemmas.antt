@@ -13,7 +13,7 @@ use Rattle.automata.specs.Search.{IsTargetFound, IsSearched, IsSearching}
 pub record IsFinding (p : ℕ) (m : Moves) (found : ℕ → ℕ) (word : ℕ → Word) (count k : ℕ) (letters : ℕ → ℕ) (total j : ℕ) : Type 0 where
   pub searched : IsSearched p m found word count k
   pub here : k < count
-  pub ahead : (i at a : ℕ) → i < count → k < at → at < count → comes_before (word i) (word at ++ a ∷ []) ≡ true
+  pub earlier : (i at a : ℕ) → i < count → k < at → at < count → comes_before (word i) (word at ++ a ∷ []) ≡ true
   pub before : (i e : ℕ) → i < count → j ≤ e → e < total → comes_before (word i) (word k ++ letters e ∷ []) ≡ true
   pub got : (e : ℕ) → e < j → IsTargetFound p m found word count k (letters e)
 
@@ -28,8 +28,8 @@ pub finding_begins : (p : ℕ) (m : Moves) (found : ℕ → ℕ) (word : ℕ →
 finding_begins p m found word count k letters total h s = record {
   searched = s.searched;
   here = h;
-  ahead = λ i at a x y z. s.ahead i at a x (omega (arith, y)) z;
-  before = λ i e x y z. s.ahead i k (letters e) x (omega arith) h;
+  earlier = λ i at a x y z. s.earlier i at a x (omega (arith, y)) z;
+  before = λ i e x y z. s.earlier i k (letters e) x (omega arith) h;
   got = λ e x. absurd (omega (arith, x));
 }
 
@@ -40,7 +40,7 @@ pub finding_has : (p : ℕ) (m : Moves) (found : ℕ → ℕ) (word : ℕ → Wo
 finding_has p m found word count k letters total j q f h l e = record {
   searched = f.searched;
   here = f.here;
-  ahead = f.ahead;
+  earlier = f.earlier;
   before = λ i d x y z. f.before i d x (omega (arith, y)) z;
   got = λ d x. elim (cases_eq d j) [
     | inl z ↦ rw (z) (record { place = q; within = l; target = e; early = before-not_after (word q) (word k ++ letters j ∷ []) (f.before q j l (omega arith) h) })
@@ -116,9 +116,9 @@ finding_new p m f g u count k letters total j ts s h same target new = record {
       (λ i l. s.before i j l (omega arith) h)
       new;
   here = omega (arith, s.here);
-  ahead = λ i at a x y z. elim (place_cases at count z) [
+  earlier = λ i at a x y z. elim (place_cases at count z) [
     | inl l ↦ elim (place_cases i count x) [
-      | inl q ↦ rw (alike i q, alike at l) (s.ahead i at a q y l)
+      | inl q ↦ rw (alike i q, alike at l) (s.earlier i at a q y l)
       | inr e ↦ rw (e, last, alike at l) (before-more (u k) (u at) (letters j) a (s.searched.order k at y l))
     ]
     | inr e ↦ elim (place_cases i count x) [
@@ -185,7 +185,7 @@ finding_ends p m found word count k letters total ts f = record {
       | inr e ↦ f.searched.targets i a (omega (arith, h, e)) l
     ];
   };
-  ahead = λ i at a x y z. f.ahead i at a x (omega (arith, y)) z;
+  earlier = λ i at a x y z. f.earlier i at a x (omega (arith, y)) z;
 }
 
 -- the first location alone
@@ -200,5 +200,5 @@ search_begins p m found e = record {
     once = λ i j h l q. omega (arith, h, l);
     targets = λ k a h l. absurd (omega (arith, h));
   };
-  ahead = λ i at a x y z. before-longer [] a;
+  earlier = λ i at a x y z. before-longer [] a;
 }

@@ -3,6 +3,7 @@ use Rattle.std.proofs.Common.{◌≡◌, ◌≢◌, ◌<◌, ◌≤◌, ◌+◌,
 use Rattle.std.specs.Prelude.{slice_index, slice_set, Contains}
 use Rattle.std.proofs.Math.ListN.{length-set}
 use Rattle.std.proofs.lemmas.Bool.{cases_lt, cases_eq}
+use Rattle.std.proofs.lemmas.List.{get_or_append_left, get_or_at}
 use Rattle.forms.specs.Word.{Word}
 use Rattle.diagrams.specs.declared.top.Id.{Id}
 use Rattle.diagrams.specs.Eval.{Diagrams, eval, letter_truth}
@@ -19,19 +20,6 @@ places_few found places a =
     no_more_than (length places) (length found) (slice_index found) a.within
     (λ i j h l e. absurd (omega (arith, h, sym (a.place i (omega (arith, h, l))) ∙ ap (slice_index places) e ∙ a.place j l)))
 
--- reading a list with one more item
-pub push_before : (xs : List ℕ) (x i : ℕ) → i < length xs → slice_index (xs ++ x ∷ []) i ≡ slice_index xs i
-push_before [] x i h = absurd (omega (arith, h))
-push_before (y ∷ xs) x zero h = refl
-push_before (y ∷ xs) x (suc i) h = push_before xs x i (omega (arith, h))
-
-pub push_at : (xs : List ℕ) (x : ℕ) → slice_index (xs ++ x ∷ []) (length xs) ≡ x
-push_at [] x = refl
-push_at (y ∷ xs) x = push_at xs x
-
-pub length_push : (xs : List ℕ) (x : ℕ) → length (xs ++ x ∷ []) ≡ length xs + 1
-length_push xs x = length-append xs (x ∷ [])
-
 -- of the targets of location k the first j are found
 pub record IsFollowing (p : ℕ) (m : Moves) (found : List ℕ) (k : ℕ) (xs : List ℕ) (j : ℕ) : Type 0 where
   pub letters : ℕ → ℕ
@@ -44,17 +32,17 @@ following_new : (p : ℕ) (m : Moves) (found : List ℕ) (k : ℕ) (xs : List �
     → ((i : ℕ) → i < length found → slice_index found i ≢ slice_index xs j) → IsFollowing p m (found ++ slice_index xs j ∷ []) k xs (j + 1)
 following_new p m found k xs j h f new =
     let x = slice_index xs j in
-    let here = push_before found x k f.finding.here in
+    let here = get_or_append_left found (x ∷ []) 0 k f.finding.here in
     record {
       letters = f.letters;
       word = with_word f.word (length found) (f.word k ++ f.letters j ∷ []);
       targets = subst (λ z. AreTargets p m z f.letters (length xs)) (sym here) f.targets;
       values = λ e l. ap (λ z. m.next z (f.letters e)) here ∙ f.values e l;
-      finding = subst (λ z. IsFinding p m (slice_index (found ++ x ∷ [])) (with_word f.word (length found) (f.word k ++ f.letters j ∷ [])) z k f.letters (length xs) (j + 1)) (sym (length_push found x))
+      finding = subst (λ z. IsFinding p m (slice_index (found ++ x ∷ [])) (with_word f.word (length found) (f.word k ++ f.letters j ∷ [])) z k f.letters (length xs) (j + 1)) (sym (length-append found (x ∷ [])))
           (finding_new p m (slice_index found) (slice_index (found ++ x ∷ [])) f.word (length found) k f.letters (length xs) j f.targets f.finding h
-          (push_before found x)
-          (push_at found x ∙ sym (f.values j h))
-          (λ i l e. new i l (e ∙ push_at found x)));
+          (get_or_append_left found (x ∷ []) 0)
+          (get_or_at found x [] 0 (length found) refl ∙ sym (f.values j h))
+          (λ i l e. new i l (e ∙ get_or_at found x [] 0 (length found) refl)));
     }
 
 -- one target noted
@@ -87,7 +75,7 @@ letter_to-is s f xs t e l = by (cases_lt e (length xs))
 least_letter-le : (s : Diagrams) (f : Id) (x l a : ℕ) → IsLeastLetter s f x l → eval s f (letter_truth s.props a) ≡ x → l ≤ a
 least_letter-le s f x l a h e = elim (cases_lt a l) [ inl k ↦ absurd (h.least a k e) | inr k ↦ k ]
 
-contains_place : (xs : List ℕ) (x : ℕ) → Contains xs x → (k : ℕ) × (k < length xs) × (slice_index xs k ≡ x)
+pub contains_place : (xs : List ℕ) (x : ℕ) → Contains xs x → (k : ℕ) × (k < length xs) × (slice_index xs k ≡ x)
 contains_place [] x (k, l, e) = absurd (omega (arith, l))
 contains_place (y ∷ xs) x (zero, l, e) = (0, l, e)
 contains_place (y ∷ xs) x (suc k, l, e) = let r = contains_place xs x (k, omega (arith, l), e) in (suc r.0, omega (arith, r.1), r.2)
@@ -163,18 +151,18 @@ places_noted found places a at h n = record {
 }
   where
     split : (i : ℕ) → i < length (found ++ at ∷ []) → (i < length found) ⊎ (i ≡ length found)
-    split i l = place_cases i (length found) (rw (length_push found at) at l)
+    split i l = place_cases i (length found) (rw (length-append found (at ∷ [])) at l)
 
     within : (i : ℕ) → i < length (found ++ at ∷ []) → slice_index (found ++ at ∷ []) i < length places
     within i l = elim (split i l) [
-      | inl x ↦ rw (push_before found at i x) (a.within i x)
-      | inr x ↦ rw (x, push_at found at) h
+      | inl x ↦ rw (get_or_append_left found (at ∷ []) 0 i x) (a.within i x)
+      | inr x ↦ rw (x, get_or_at found at [] 0 (length found) refl) h
     ]
 
     place : (i : ℕ) → i < length (found ++ at ∷ []) → slice_index (slice_set places at (length found)) (slice_index (found ++ at ∷ []) i) ≡ i
     place i l = elim (split i l) [
-      | inl x ↦ rw (push_before found at i x) (get_or-set_other places at (slice_index found i) (length found) 0 (no_place found places a at n i x) ∙ a.place i x)
-      | inr x ↦ rw (x, push_at found at) (get_or-set_same places at (length found) 0 h)
+      | inl x ↦ rw (get_or_append_left found (at ∷ []) 0 i x) (get_or-set_other places at (slice_index found i) (length found) 0 (no_place found places a at n i x) ∙ a.place i x)
+      | inr x ↦ rw (x, get_or_at found at [] 0 (length found) refl) (get_or-set_same places at (length found) 0 h)
     ]
 
     back : (q : ℕ) → q < length (slice_set places at (length found)) → slice_index (slice_set places at (length found)) q ≢ nowhere
@@ -183,11 +171,11 @@ places_noted found places a at h n = record {
     back q l z = elim (cases_eq q at) [
       | inl e ↦
           let s : slice_index (slice_set places at (length found)) q ≡ length found = rw (e) (get_or-set_same places at (length found) 0 h) in
-          rw (s) (omega (arith, length_push found at), push_at found at ∙ sym e)
+          rw (s) (omega (arith, length-append found (at ∷ [])), get_or_at found at [] 0 (length found) refl ∙ sym e)
       | inr e ↦
           let s : slice_index (slice_set places at (length found)) q ≡ slice_index places q = get_or-set_other places at q (length found) 0 e in
           let b = a.back q (rw (length-set places at (length found)) at l) (λ w. z (s ∙ w)) in
-          rw (s) (omega (arith, length_push found at, b.0), push_before found at (slice_index places q) b.0 ∙ b.1)
+          rw (s) (omega (arith, length-append found (at ∷ []), b.0), get_or_append_left found (at ∷ []) 0 (slice_index places q) b.0 ∙ b.1)
     ]
 
 -- targets are locations

@@ -1,11 +1,12 @@
 -- An automaton as its store grows.
-use Rattle.std.proofs.Common.{◌≡◌, ◌<◌, ◌==◌, ℕ, [], ◌∷◌, refl, sym, ◌∙◌, ap}
-use Rattle.forms.specs.Word.{Word}
+use Rattle.std.proofs.Common.{◌≡◌, ◌<◌, ◌==◌, ℕ, [], ◌∷◌, refl, sym, ◌∙◌, ap, subst}
+use Rattle.forms.specs.Word.{Word, IsOver}
 use Rattle.forms.specs.Tree.{Formula}
 use Rattle.forms.specs.Satisfaction.{sat}
 use Rattle.diagrams.specs.declared.top.Id.{Id}
 use Rattle.diagrams.specs.Eval.{Diagrams, eval, letter_truth}
 use Rattle.diagrams.specs.Live.{Keeps}
+use Rattle.diagrams.proofs.DependsLemmas.{DependsOn-lasts}
 use Rattle.diagrams.proofs.Meaning.{eval-lasts, live_lasts}
 use Rattle.automata.specs.Moves.{location_after, mark_after}
 use Rattle.automata.specs.Table.{Table, size_of, mark_of, row_of, IsRow, Fits, next_of, moves_of, IsMeant}
@@ -14,10 +15,7 @@ use Rattle.automata.specs.Table.{Table, size_of, mark_of, row_of, IsRow, Fits, n
 pub row_lasts : (s n : Diagrams) → Keeps s n → (size : ℕ) (row : Id) → IsRow s size row → IsRow n size row
 row_lasts s n k size row r = record {
   live = live_lasts s n k.extends row r.live;
-  letters = λ a b same.
-      eval-lasts s n k.was k.now k.extends row r.live a
-      ∙ r.letters a b (λ v h. same v (rw k.extends.props h))
-      ∙ sym (eval-lasts s n k.was k.now k.extends row r.live b);
+  letters = DependsOn-lasts s n k row (λ p v. v < p) r.live r.letters;
   targets = λ a. rw (eval-lasts s n k.was k.now k.extends row r.live a) (r.targets a);
 }
 
@@ -46,8 +44,8 @@ mark_after-lasts s n k t f at w h = ap (mark_of t) (location_after-lasts s n k t
 pub meant_lasts : (s n : Diagrams) → Keeps s n → (t : Table) (f : Formula) → t.first < size_of t → IsMeant s t f → IsMeant n t f
 meant_lasts s n k t f h m = record {
   fits = fits_lasts s n k t m.fits;
-  same = λ w.
+  same = λ w o.
       ap (λ x. x == 1) (mark_after-lasts s n k t m.fits t.first w h)
-      ∙ m.same w
+      ∙ m.same w (subst (λ p. IsOver p w) k.extends.props o)
       ∙ ap (λ p. sat p f w) (sym k.extends.props);
 }

@@ -9,3 +9,4 @@ pub mod FindingLemmas
 pub mod FoundLists
 pub mod RenumberLemmas
 pub mod ListingLemmas
+pub mod Everywhere

@@ -1,21 +1,20 @@
 -- From a search to the renumbered automaton.
-use Rattle.std.proofs.Common.{◌≡◌, ◌<◌, ◌+◌, ◌^◌, ◌++◌, ℕ, zero, suc, List, [], ◌∷◌, refl, sym, ◌∙◌, ap, subst, arith, inl, inr, length, length-append}
+use Rattle.std.proofs.Common.{◌≡◌, ◌<◌, ◌+◌, ◌^◌, ◌++◌, ℕ, List, [], ◌∷◌, refl, sym, ◌∙◌, ap, subst, arith, inl, inr, length, length-append}
 use Rattle.std.specs.Prelude.{slice_index, slice_index_or, All}
-use Rattle.std.proofs.lemmas.List.{get_or_default}
+use Rattle.std.proofs.lemmas.List.{get_or_append_left, get_or_at, get_or_default}
 use Rattle.forms.specs.Word.{Word, IsOver}
 use Rattle.diagrams.specs.declared.top.Id.{Id}
 use Rattle.diagrams.specs.Tree.{Assignment}
 use Rattle.diagrams.specs.Eval.{Diagrams, eval, letter_truth}
 use Rattle.diagrams.specs.Live.{Keeps, Means}
 use Rattle.diagrams.proofs.Meaning.{eval-lasts, live_lasts}
-use Rattle.automata.specs.Moves.{Moves, location_after, mark_after, AgreeOnMarks, HaveSameMarks, IsClosed}
+use Rattle.automata.specs.Moves.{Moves, location_after, mark_after, HaveSameMarksOver, HaveSameMarks, IsClosed}
 use Rattle.automata.specs.Table.{Table, size_of, mark_of, row_of, Fits, next_of, moves_of}
 use Rattle.automata.specs.Numbering.{IsNumbered}
-use Rattle.automata.specs.Renamed.{IsPartOf}
+use Rattle.automata.specs.Subautomaton.{IsSubautomaton}
 use Rattle.automata.specs.Search.{HasFound, ArePlaces, AreMarks, AreRows}
 use Rattle.automata.proofs.Letters.{spelt, spelt-less, spelt-truth}
 use Rattle.automata.proofs.FindingLemmas.{place_cases}
-use Rattle.automata.proofs.FoundLists.{push_before, push_at, length_push}
 use Rattle.automata.proofs.Words.{over-nil, over-cons, mark_after-part}
 use Rattle.automata.proofs.SearchLemmas.{IsRenamed, search_part, search_numbers, found-within}
 
@@ -50,7 +49,7 @@ location_after-word_of s t f at (a ∷ w) h =
 
 -- the marks after words over the propositions say those after every list of numbers
 pub same_marks : (s n : Diagrams) (t u : Table) → Fits s t → Fits n u → t.first < size_of t → u.first < size_of u → n.props ≡ s.props
-    → AgreeOnMarks s.props (moves_of s t) (moves_of n u) → HaveSameMarks (moves_of s t) (moves_of n u)
+    → HaveSameMarksOver s.props (moves_of s t) (moves_of n u) → HaveSameMarks (moves_of s t) (moves_of n u)
 same_marks s n t u f g h k e same w =
     ap (mark_of t) (sym (location_after-word_of s t f t.first w h))
     ∙ same (word_of s.props w) (over-word_of s.props w)
@@ -108,7 +107,7 @@ module _ (s n : Diagrams) (t u : Table) (found places : List ℕ) (closed : t.fi
   size-is : size_of u ≡ length found
   size-is = r.length
 
-  pub renumbered_part : IsPartOf s.props (moves_of s t) (moves_of n u)
+  pub renumbered_part : IsSubautomaton s.props (moves_of s t) (moves_of n u)
   renumbered_part =
       search_part s.props (moves_of s t) (moves_of n u) (slice_index found) h.word (fits_closed s t closed f)
       (rw (size-is) h.searching.searched) renamed
@@ -136,36 +135,27 @@ rows_more s n after t found places rows k id keeps grows f within r m = record {
   row = λ i l. elim (place_cases i k l) [
     | inl x ↦
         let old = r.row i x in
-        rw (id_before rows id i (rw (r.length) x)) (record {
+        rw (get_or_append_left rows (id ∷ []) (record { 0 = 0 }) i (rw (r.length) x)) (record {
           live = live_lasts n after grows.extends _ old.live;
           value = λ a. eval-lasts n after grows.was grows.now grows.extends _ old.live a ∙ old.value a;
         })
     | inr e ↦
-        let at : slice_index_or (rows ++ id ∷ []) i (record { 0 = 0 }) ≡ id = rw (e, ← r.length) (id_at rows id) in
+        let at : slice_index_or (rows ++ id ∷ []) i (record { 0 = 0 }) ≡ id = rw (e, ← r.length) (get_or_at rows id [] (record { 0 = 0 }) (length rows) refl) in
         rw (at, e) (record {
           live = m.live;
           value = λ a. m.value a ∙ ap (slice_index places) (eval-lasts s n keeps.was keeps.now keeps.extends (row_of t (slice_index found k)) (f (slice_index found k) within).live a);
         })
   ];
 }
-  where
-    id_before : (xs : List Id) (x : Id) (i : ℕ) → i < length xs → slice_index_or (xs ++ x ∷ []) i (record { 0 = 0 }) ≡ slice_index_or xs i (record { 0 = 0 })
-    id_before [] x i h = absurd (omega (arith, h))
-    id_before (y ∷ xs) x zero h = refl
-    id_before (y ∷ xs) x (suc i) h = id_before xs x i (omega (arith, h))
-
-    id_at : (xs : List Id) (x : Id) → slice_index_or (xs ++ x ∷ []) (length xs) (record { 0 = 0 }) ≡ x
-    id_at [] x = refl
-    id_at (y ∷ xs) x = id_at xs x
 
 -- one more mark
 pub marks_more : (t : Table) (found marks : List ℕ) (k x : ℕ) → AreMarks t found marks k → x ≡ mark_of t (slice_index found k)
     → AreMarks t found (marks ++ x ∷ []) (k + 1)
 marks_more t found marks k x m e = record {
-  length = length_push marks x ∙ ap (λ z. z + 1) m.length;
+  length = length-append marks (x ∷ []) ∙ ap (λ z. z + 1) m.length;
   mark = λ i l. elim (place_cases i k l) [
-    | inl h ↦ push_before marks x i (rw (m.length) h) ∙ m.mark i h
-    | inr h ↦ rw (h) (ap (slice_index (marks ++ x ∷ [])) (sym m.length) ∙ push_at marks x ∙ e)
+    | inl h ↦ get_or_append_left marks (x ∷ []) 0 i (rw (m.length) h) ∙ m.mark i h
+    | inr h ↦ rw (h) (ap (slice_index (marks ++ x ∷ [])) (sym m.length) ∙ get_or_at marks x [] 0 (length marks) refl ∙ e)
   ];
 }
 

@@ -5,7 +5,7 @@ use Rattle.forms.specs.Shortlex.{comes_before}
 use Rattle.forms.proofs.ShortlexLemmas.{before-not_itself}
 use Rattle.automata.specs.Moves.{Moves, location_after, IsClosed}
 use Rattle.automata.specs.Numbering.{IsLeastWord, IsNumbered}
-use Rattle.automata.specs.Renamed.{IsPartOf}
+use Rattle.automata.specs.Subautomaton.{IsSubautomaton}
 use Rattle.automata.specs.Search.{IsSearched}
 use Rattle.automata.proofs.Words.{over-head, over-tail, location_after-append, location_after-within, location_after-part}
 use Rattle.automata.proofs.Order.{not_before-trans, not_before-more}
@@ -57,7 +57,7 @@ found-within p m found word count done c s k h =
 
 -- what a finished search finds is a part
 pub search_part : (p : ℕ) (m n : Moves) (found : ℕ → ℕ) (word : ℕ → Word) → IsClosed p m → IsSearched p m found word n.size n.size
-    → IsRenamed p m n found → IsPartOf p m n
+    → IsRenamed p m n found → IsSubautomaton p m n
 search_part p m n found word c s r = record {
   of = found;
   closed = r.closed;
@@ -68,7 +68,7 @@ search_part p m n found word c s r = record {
   next = r.next;
 }
 
-found-first : (p : ℕ) (m n : Moves) (r : IsPartOf p m n) (w : Word) → IsOver p w → r.of (location_after n n.first w) ≡ location_after m m.first w
+found-first : (p : ℕ) (m n : Moves) (r : IsSubautomaton p m n) (w : Word) → IsOver p w → r.of (location_after n n.first w) ≡ location_after m m.first w
 found-first p m n r w o =
     location_after-part p m n r n.first w r.closed.first o ∙ ap (λ z. location_after m z w) r.first
 

@@ -3,7 +3,7 @@ use Rattle.std.proofs.Common.{◌≡◌, ◌<◌, ◌^◌, ℕ, [], ◌∷◌, �
 use Rattle.std.proofs.lemmas.List.Elements.{All-head, All-tail, All-cons, All-nil, All-append}
 use Rattle.forms.specs.Word.{Word, IsOver}
 use Rattle.automata.specs.Moves.{Moves, location_after, mark_after, IsClosed}
-use Rattle.automata.specs.Renamed.{IsPartOf}
+use Rattle.automata.specs.Subautomaton.{IsSubautomaton}
 
 -- the empty word is over every number of propositions
 pub over-nil : (p : ℕ) → IsOver p []
@@ -40,7 +40,7 @@ location_after-within p m c at [] h o = h
 location_after-within p m c at (a ∷ w) h o = location_after-within p m c (m.next at a) w (c.next at a h (over-head p a w o)) (over-tail p a w o)
 
 -- a word leads from a location of a part to where it leads in the whole
-pub location_after-part : (p : ℕ) (m n : Moves) (r : IsPartOf p m n) (k : ℕ) (w : Word) → k < n.size → IsOver p w
+pub location_after-part : (p : ℕ) (m n : Moves) (r : IsSubautomaton p m n) (k : ℕ) (w : Word) → k < n.size → IsOver p w
     → r.of (location_after n k w) ≡ location_after m (r.of k) w
 location_after-part p m n r k [] h o = refl
 location_after-part p m n r k (a ∷ w) h o =
@@ -49,7 +49,7 @@ location_after-part p m n r k (a ∷ w) h o =
     ∙ ap (λ z. location_after m z w) (r.next k a h x)
 
 -- and to the same mark
-pub mark_after-part : (p : ℕ) (m n : Moves) (r : IsPartOf p m n) (k : ℕ) (w : Word) → k < n.size → IsOver p w
+pub mark_after-part : (p : ℕ) (m n : Moves) (r : IsSubautomaton p m n) (k : ℕ) (w : Word) → k < n.size → IsOver p w
     → mark_after n k w ≡ mark_after m (r.of k) w
 mark_after-part p m n r k w h o =
     r.mark (location_after n k w) (location_after-within p n r.closed k w h o) ∙ ap m.mark (location_after-part p m n r k w h o)

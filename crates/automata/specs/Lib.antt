@@ -1,6 +1,6 @@
 pub mod Moves
 pub mod Table
 pub mod Numbering
-pub mod Renamed
+pub mod Subautomaton
 pub mod Search
 pub mod Listing

@@ -23,8 +23,8 @@ abbrev pub accepts : Moves → Word → Bool
 accepts m w = mark_after m m.first w == 1
 
 -- the two have the same mark after each word over p propositions
-abbrev pub AgreeOnMarks : ℕ → Moves → Moves → Type 0
-AgreeOnMarks p m n = (w : Word) → IsOver p w → mark_after m m.first w ≡ mark_after n n.first w
+abbrev pub HaveSameMarksOver : ℕ → Moves → Moves → Type 0
+HaveSameMarksOver p m n = (w : Word) → IsOver p w → mark_after m m.first w ≡ mark_after n n.first w
 
 -- the two have the same mark after every list of numbers
 abbrev pub HaveSameMarks : Moves → Moves → Type 0

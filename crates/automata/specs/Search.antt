@@ -33,7 +33,7 @@ pub record IsSearched (p : ℕ) (m : Moves) (found : ℕ → ℕ) (word : ℕ �
 -- the targets of the first k locations are found, and each word so far comes before what the others lead to
 pub record IsSearching (p : ℕ) (m : Moves) (found : ℕ → ℕ) (word : ℕ → Word) (count k : ℕ) : Type 0 where
   pub searched : IsSearched p m found word count k
-  pub ahead : (i at a : ℕ) → i < count → k ≤ at → at < count → comes_before (word i) (word at ++ a ∷ []) ≡ true
+  pub earlier : (i at a : ℕ) → i < count → k ≤ at → at < count → comes_before (word i) (word at ++ a ∷ []) ≡ true
 
 -- a search found these locations, and all targets of the first k of them
 pub record HasFound (p : ℕ) (m : Moves) (found : List ℕ) (k : ℕ) : Type 0 where

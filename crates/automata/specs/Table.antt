@@ -1,6 +1,6 @@
 -- What contracts see of an automaton, and what it is to fit a store.
 use Rattle.std.specs.Prelude.{◌≡◌, ◌<◌, ℕ, List, length, slice_index, slice_index_or}
-use Rattle.forms.specs.Word.{Word}
+use Rattle.forms.specs.Word.{Word, IsOver}
 use Rattle.forms.specs.Tree.{Formula}
 use Rattle.forms.specs.Satisfaction.{sat}
 use Rattle.diagrams.specs.declared.top.Id.{Id}
@@ -45,7 +45,7 @@ next_of s t at letter = eval s (row_of t at) (letter_truth s.props letter)
 abbrev pub moves_of : Diagrams → Table → Moves
 moves_of s t = record { size = size_of t; first = t.first; mark = mark_of t; next = next_of s t }
 
--- the automaton fits the store, and accepts a word exactly where the formula holds at its front
+-- the automaton fits the store, and accepts a word over its propositions exactly where the formula holds at its front
 pub record IsMeant (s : Diagrams) (t : Table) (f : Formula) : Type 0 where
   pub fits : Fits s t
-  pub same : (w : Word) → accepts (moves_of s t) w ≡ sat s.props f w
+  pub same : (w : Word) → IsOver s.props w → accepts (moves_of s t) w ≡ sat s.props f w

@@ -4,7 +4,7 @@ ghost use Rattle.diagrams.specs.Live.{Keeps};
 ghost use Rattle.automata.specs.Moves.{HaveSameMarks};
 ghost use Rattle.automata.specs.Table.{size_of, Fits, moves_of};
 ghost use Rattle.automata.specs.Numbering.{IsNumbered};
-ghost use Rattle.automata.specs.Renamed.{IsPartOf};
+ghost use Rattle.automata.specs.Subautomaton.{IsSubautomaton};
 ghost use Rattle.automata.specs.Search.{ArePlaces, AreMarks, AreRows};
 
 use crate::automaton::Automaton;
@@ -38,7 +38,7 @@ fn rows_of(
     ensures keeps { Keeps store.old store.new }
     ensures rows { IfOk result (λ rows. AreRows store.old store.new automaton.now reached.now.found.items reached.now.places.items rows.items (length reached.now.found.items)) }
 {
-    let _ = store.look(automaton.row(automaton.first()));
+    prove!(store.props() <= 32);
     let mut rows = Vec::new(alloc);
     for at in &reached.found {
         rows.push(store.map_terminals(automaton.row(*at), &reached.places)?)?;
@@ -53,11 +53,12 @@ pub fn renumber(alloc: Global, store: &mut Store, automaton: Automaton) -> Resul
     ensures keeps { Keeps store.old store.new }
     ensures fits { IfOk result (λ made. Fits store.new made) }
     ensures first { IfOk result (λ made. made.first ≡ 0) }
-    ensures part { IfOk result (λ made. IsPartOf store.old.props (moves_of store.old automaton) (moves_of store.new made)) }
+    ensures part { IfOk result (λ made. IsSubautomaton store.old.props (moves_of store.old automaton) (moves_of store.new made)) }
     ensures marks { IfOk result (λ made. HaveSameMarks (moves_of store.new made) (moves_of store.old automaton)) }
     ensures numbered { IfOk result (λ made. IsNumbered store.old.props (moves_of store.new made)) }
 {
-    let _ = store.look(automaton.row(automaton.first()));
+    prove!(store.props() <= 32);
+    prove!(automaton.first() < automaton.size());
     let reached = search(alloc, store, &automaton)?;
     let marks = marks_of(alloc, &automaton, &reached.found)?;
     let rows = rows_of(alloc, store, &automaton, &reached)?;

@@ -13,14 +13,6 @@ use Rattle.bes_io.specs.Reader.{first_line, line_len}
 use Rattle.bes_io.specs.Lines.{Stop, at_end, HasLines, ended, faulty, line}
 use Rattle.bes_io.proofs.Finding.{end-empty, line-some}
 
--- a count that ends at 2^64 - 1 rose where it is greater, or where it stood there
-pub Rose-exact : (before now : ℕ) → before ≤ now → now < 2 ^ 64 → Rose before now → (before < now) ⊎ (before ≡ 2 ^ 64 - 1)
-Rose-exact before now later bound rose = by (nat_lt before now) refl
-  where
-    by : (b : Bool) → nat_lt before now ≡ b → (before < now) ⊎ (before ≡ 2 ^ 64 - 1)
-    by true e = inl (grind (arith, nat_tests))
-    by false e = inr (grind (arith, nat_tests))
-
 -- a part, and then the lines of the parts after it
 parts-cons : (x : List ℕ) (parts : List (List ℕ)) → 0 < length parts → lines_of_parts (x ∷ parts) ≡ strip_carriage_return x ∷ lines_of_parts parts
 parts-cons x [] some = absurd (omega arith)

@@ -19,7 +19,7 @@ abbrev pub Puts : {T E : Type 0} → Option (List ℕ) → Option (List ℕ) →
 Puts old new (Ok u) piece = new ≡ append_known old piece
 Puts old new (Err e) piece = (n : ℕ) × (new ≡ append_known old (take n piece))
 
--- what the name gained in the list of names that failed
+-- what a read of the name adds to the names that failed
 abbrev pub failure : {T : Type 0} → Result T FileFault → List ℕ → List (List ℕ)
 failure (Ok text) name = []
 failure (Err Failed) name = name ∷ []

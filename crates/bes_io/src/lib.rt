@@ -11,8 +11,6 @@ mod memory_files;
 mod memory_forms;
 mod outside;
 mod standard;
-#[cfg(test)]
-mod tests;
 mod words;
 
 pub use laws::laws_of_lines;

@@ -44,6 +44,7 @@ impl<R: Read> Source for StdSource<R> {
         // What the reader gave is passed on.
         ensures reads { ReadConsumes (R.remaining (reader_of self.old)) (R.remaining (reader_of self.new)) result into.new }
     {
+        // Counted, so that it is seen to end whatever the system does.
         for _ in 0..u64::MAX {
             match self.reader.read(into) {
                 Ok(n) => return Ok(n),
@@ -77,10 +78,8 @@ impl<W> StdSink<W> {
 fn write_through<W: Write>(writer: &mut W, piece: &[u8]) -> io::Result<()>
     ensures { OnOk result (Appends (W.contents writer.old) (W.contents writer.new) piece.now) }
 {
-    match writer.write_all(piece) {
-        Ok(()) => writer.flush(),
-        Err(fault) => Err(fault),
-    }
+    writer.write_all(piece)?;
+    writer.flush()
 }
 
 impl<W: Write> Sink for StdSink<W> {
@@ -130,6 +129,7 @@ fn read_front<R: Read>(reader: &mut R, alloc: Global, most: usize) -> Result<Vec
 {
     let mut text = Vec::new(alloc);
     let mut piece = [0u8; 4096];
+    // Counted, so that it is seen to end whatever the system does.
     for _ in 0..u64::MAX {
         let room = piece.len().min(most - text.len());
         if room == 0 {

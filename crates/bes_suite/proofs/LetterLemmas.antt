@@ -1,6 +1,6 @@
 -- What a call of `next_letter` says, by what the reader of lines found.
 use Rattle.std.proofs.Common.{◌≡◌, ℕ, ◌<◌, ◌∷◌, List, [], length, Contains, sym, refl, ◌∙◌, ap, subst, Option, Some, None, Result, Ok, Err}
-use Rattle.bes_io.specs.Reader.{Reader, input, first_line, Finds, HasReadCause}
+use Rattle.bes_io.specs.Reader.{Reader, input, first_line, Finds}
 use Rattle.bes_io.specs.Lines.{at_fault, FoundLine, NextLine}
 use Rattle.bes_io.specs.declared.lines.Found.{Found}
 use Rattle.bes_io.specs.declared.lines.Found.TheVariants.{Line, End}
@@ -13,7 +13,7 @@ use Rattle.bes_suite.specs.declared.endings.Ending.{Ending}
 use Rattle.bes_suite.specs.declared.endings.Ending.TheVariants.{Refused}
 use Rattle.bes_suite.specs.declared.endings.Refusal.TheVariants.{Event}
 use Rattle.bes_suite.specs.Traces.{line_refusal}
-use Rattle.bes_suite.specs.Letters.{stopped, FoundLetter, IsRefusedAt, NextLetter, HasTraceCause}
+use Rattle.bes_suite.specs.Letters.{stopped, FoundLetter, IsRefusedAt, NextLetter}
 use Rattle.bes_io.proofs.LinesLemmas.{some-remain}
 
 module _ (names : List (List ℕ)) (n : ℕ) (old new : Reader) (bytes : List ℕ) (left : Option (List ℕ)) where
@@ -77,20 +77,3 @@ module _ (names : List (List ℕ)) (n : ℕ) (old new : Reader) (left later : Op
   pub letter-stopped : (r ≡ Err ReadFault → ¬ Contains new.held 10) → (fault : LineFault) → r ≡ Err fault → (ending : Ending) → ending ≡ stopped n fault
       → (bytes : List ℕ) → input old left ≡ Some bytes → NextLetter names n old bytes (Err ending) new later
   letter-stopped none fault e ending is bytes told = subst (λ q. NextLetter names n old bytes (Err q) new later) (sym is) (stops none fault e bytes told)
-
--- the cause of an ending is that of the reader's answer
-stop-cause : (before now n : ℕ) (fault : LineFault) → HasReadCause before now (Err fault) → HasTraceCause {T = Option ℕ} before now (Err (stopped n fault))
-stop-cause before now n ReadFault h = h.1
-stop-cause before now n LineTooLong h = h
-stop-cause before now n InputTooLong h = h
-
-pub stopped-cause : (before now n : ℕ) (r : Result Found LineFault) → HasReadCause before now r → (fault : LineFault) → r ≡ Err fault
-    → (ending : Ending) → ending ≡ stopped n fault → HasTraceCause {T = Option ℕ} before now (Err ending)
-stopped-cause before now n r h fault e ending is =
-    subst (λ q. HasTraceCause {T = Option ℕ} before now (Err q)) (sym is) (stop-cause before now n fault (subst (HasReadCause before now) e h))
-
-pub line-cause : (before now : ℕ) (r : Result Found LineFault) → HasReadCause before now r → r ≡ Ok Line → now ≡ before
-line-cause before now r h e = subst (HasReadCause before now) e h
-
-pub end-cause : (before now : ℕ) (r : Result Found LineFault) → HasReadCause before now r → r ≡ Ok End → now ≡ before
-end-cause before now r h e = subst (HasReadCause before now) e h

@@ -2,13 +2,13 @@ pub mod LetterLemmas
 pub mod TraceLemmas
 pub mod StreamLemmas
 pub mod VerdictLemmas
-pub mod WatchLemmas
-pub mod WatchEnds
+pub mod MonitorLines
+pub mod MonitorEnds
 pub mod FormulaLemmas
 pub mod Performing
 pub mod JudgeLemmas
 pub mod MonitorLemmas
-pub mod WatchRuns
+pub mod MonitorRuns
 pub mod OpenLemmas
 pub mod RunLemmas
 pub mod TextLemmas

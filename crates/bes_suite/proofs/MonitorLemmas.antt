@@ -76,7 +76,6 @@ module _ (some all : Contents → List ℕ → Reply → Type 0) (must may : Typ
   pub performs-more : (ending : Ending) → Performs needs_input some must before after ending → Performs needs_input all may before after ending
   performs-more Positive p = record {
     adds = λ files rest tells. gives-more files rest Positive (p.adds files rest (tells-more files rest tells));
-    nothing = p.nothing;
     early = λ before. absurd before;
     counts = p.counts;
     gains = p.gains;
@@ -84,7 +83,6 @@ module _ (some all : Contents → List ℕ → Reply → Type 0) (must may : Typ
   }
   performs-more Negative p = record {
     adds = λ files rest tells. gives-more files rest Negative (p.adds files rest (tells-more files rest tells));
-    nothing = p.nothing;
     early = λ before. absurd before;
     counts = p.counts;
     gains = p.gains;
@@ -92,7 +90,6 @@ module _ (some all : Contents → List ℕ → Reply → Type 0) (must may : Typ
   }
   performs-more (Refused r) p = record {
     adds = λ files rest tells. gives-more files rest (Refused r) (p.adds files rest (tells-more files rest tells));
-    nothing = p.nothing;
     early = λ early. absurd (p.early early given);
     counts = p.counts;
     gains = p.gains;
@@ -100,7 +97,6 @@ module _ (some all : Contents → List ℕ → Reply → Type 0) (must may : Typ
   }
   performs-more OutsideFault p = record {
     adds = λ files rest tells. prefix-more files rest (p.adds files rest (tells-more files rest tells));
-    nothing = p.nothing;
     early = λ before. absurd before;
     counts = elim p.counts [ inl r ↦ inl (asks, r.1) | inr r ↦ inr r ];
     gains = p.gains;
@@ -108,7 +104,6 @@ module _ (some all : Contents → List ℕ → Reply → Type 0) (must may : Typ
   }
   performs-more NoMemory p = record {
     adds = λ files rest tells. tt;
-    nothing = p.nothing;
     early = λ before. absurd before;
     counts = p.counts;
     gains = p.gains;
@@ -124,7 +119,6 @@ module _ (replies : Contents → List ℕ → Reply → Type 0) (before after : 
       → ¬ IsBeforeInput ending → ending ≢ OutsideFault → ending ≢ NoMemory → KeepsCounts before after → ReadsAll before after ending → Does ending
   replied Positive gives late fault memory keeps whole = record {
     adds = λ files rest tells. gives files rest (tells.told_input tt);
-    nothing = tt;
     early = λ before. absurd (late before);
     counts = keeps;
     gains = inl keeps.failed;
@@ -132,7 +126,6 @@ module _ (replies : Contents → List ℕ → Reply → Type 0) (before after : 
   }
   replied Negative gives late fault memory keeps whole = record {
     adds = λ files rest tells. gives files rest (tells.told_input tt);
-    nothing = tt;
     early = λ before. absurd (late before);
     counts = keeps;
     gains = inl keeps.failed;
@@ -140,7 +133,6 @@ module _ (replies : Contents → List ℕ → Reply → Type 0) (before after : 
   }
   replied (Refused r) gives late fault memory keeps whole = record {
     adds = λ files rest tells. gives files rest (tells.told_input tt);
-    nothing = tt;
     early = λ before. absurd (late before);
     counts = keeps;
     gains = inl keeps.failed;
@@ -154,7 +146,6 @@ module _ (replies : Contents → List ℕ → Reply → Type 0) (before after : 
       → Rose before.reads after.reads ⊎ Rose before.puts after.puts → after.failed ≡ before.failed → Does OutsideFault
   failed adds cause same = record {
     adds = λ files rest tells. adds files rest (tells.told_input tt);
-    nothing = tt;
     early = λ before. absurd before;
     counts = elim cause [ inl r ↦ inl (tt, r) | inr r ↦ inr (inl r) ];
     gains = inl same;

@@ -20,7 +20,7 @@ use Rattle.bes_suite.specs.Limits.{most_classes, ending_at_limit}
 use Rattle.bes_suite.specs.Worlds.{World, needs_input, Performs, KeepsCounts}
 use Rattle.bes_suite.proofs.FormulaLemmas.{one-formula}
 use Rattle.bes_suite.proofs.Performing.{refusal, no-memory}
-use Rattle.bes_suite.specs.Monitoring.{AreWithin, IsWatched, IsWatchable, MonitorAnswers, watched, too_many}
+use Rattle.bes_suite.specs.Monitoring.{AreWithin, IsMonitored, IsFormulaWithinLimit, MonitorAnswers, monitored, too_many}
 
 -- there is no part after the last, so what is counted there is the whole
 whole-count : (p : ℕ) (f : Formula) (count : ℕ) → HasClassCount p (λ w. meets p f w) count → HasCount p f (suc (length (parts f))) count
@@ -49,22 +49,22 @@ over-or-within names f part count over within =
     let same = class_count_is_one (length names) _ count w.count over.has w.has in
     omega (arith, same, over.over, w.within)
 
--- what is watched is what `monitor` answers
+-- what is monitored is what `monitor` answers
 pub monitor-answers : (dialect : Dialect) (text : List ℕ) (names : List (List ℕ)) (f : Formula) → IsFormula dialect text f → names ≡ names_of dialect text → AreWithin names f
-    → (bytes : List ℕ) (reply : Reply) → IsWatched names f bytes reply → MonitorAnswers dialect text bytes reply
+    → (bytes : List ℕ) (reply : Reply) → IsMonitored names f bytes reply → MonitorAnswers dialect text bytes reply
 monitor-answers dialect text names f is same within bytes reply w =
-    watched is (subst (λ n. AreWithin n f) same within) (subst (λ n. IsWatched n f bytes reply) same w)
+    monitored is (subst (λ n. AreWithin n f) same within) (subst (λ n. IsMonitored n f bytes reply) same w)
 
--- a formula that was opened is watchable
-pub watchable : (dialect : Dialect) (text : List ℕ) (names : List (List ℕ)) (f : Formula) → IsFormula dialect text f → names ≡ names_of dialect text → AreWithin names f
-    → IsWatchable dialect text
-watchable dialect text names f is same within = (f, is, subst (λ n. AreWithin n f) same within)
+-- a formula that was opened is within the limit
+pub within_limit : (dialect : Dialect) (text : List ℕ) (names : List (List ℕ)) (f : Formula) → IsFormula dialect text f → names ≡ names_of dialect text → AreWithin names f
+    → IsFormulaWithinLimit dialect text
+within_limit dialect text names f is same within = (f, is, subst (λ n. AreWithin n f) same within)
 
 -- a formula that can't be opened ends the run
 limit-ends : (dialect : Dialect) (text : List ℕ) (names : List (List ℕ)) (f : Formula) → IsFormula dialect text f → names ≡ names_of dialect text → (before after : World)
     → KeepsCounts before after → after.held ≡ before.held → (fault : TranslateFault) → IfTooMany fault (IsFirstOver (length names) f most_classes)
-    → Performs needs_input (λ files bytes. MonitorAnswers dialect text bytes) (IsWatchable dialect text) before after (ending_at_limit fault)
-limit-ends dialect text names f is same before after keeps held Memory over = no-memory needs_input _ _ before after keeps held
+    → Performs needs_input (λ files bytes. MonitorAnswers dialect text bytes) (IsFormulaWithinLimit dialect text) before after (ending_at_limit fault)
+limit-ends dialect text names f is same before after keeps held Memory over = no-memory needs_input _ _ before after keeps
 limit-ends dialect text names f is same before after keeps held (TooMany part count) over =
     let first : IsFirstOver (length (names_of dialect text)) f most_classes part count = subst (λ n. IsFirstOver (length n) f most_classes part count) same over in
     refusal needs_input _ _ before after (refused.TooMany part count) (λ files rest tells. too_many is first)
@@ -76,7 +76,7 @@ limit-ends dialect text names f is same before after keeps held (TooMany part co
 pub limit-ends-so : (dialect : Dialect) (text : List ℕ) (names : List (List ℕ)) (f : Formula) → IsFormula dialect text f → names ≡ names_of dialect text → (before after : World)
     → KeepsCounts before after → after.held ≡ before.held → (fault : TranslateFault) → IfTooMany fault (IsFirstOver (length names) f most_classes)
     → (ending : Ending) → ending ≡ ending_at_limit fault
-    → Performs needs_input (λ files bytes. MonitorAnswers dialect text bytes) (IsWatchable dialect text) before after ending
+    → Performs needs_input (λ files bytes. MonitorAnswers dialect text bytes) (IsFormulaWithinLimit dialect text) before after ending
 limit-ends-so dialect text names f is same before after keeps held fault over ending e =
-    subst (λ x. Performs needs_input (λ files bytes. MonitorAnswers dialect text bytes) (IsWatchable dialect text) before after x) (sym e)
+    subst (λ x. Performs needs_input (λ files bytes. MonitorAnswers dialect text bytes) (IsFormulaWithinLimit dialect text) before after x) (sym e)
     (limit-ends dialect text names f is same before after keeps held fault over)

@@ -36,18 +36,16 @@ module _ (needs : Needs) (replies : Contents → List ℕ → Reply → Type 0) 
       added = held ∙ append-nothing before.held;
       ends = refl;
     };
-    nothing = tt;
     early = early;
     counts = keeps;
     gains = inl keeps.failed;
     whole = if-needed needs.input (Unit {0}) tt;
   }
 
-  -- want of memory, before anything was added to the output
-  pub no-memory : KeepsCounts before after → after.held ≡ before.held → Performs needs replies may_read before after NoMemory
-  no-memory keeps held = record {
+  -- want of memory, after which no count has risen
+  pub no-memory : KeepsCounts before after → Performs needs replies may_read before after NoMemory
+  no-memory keeps = record {
     adds = λ files rest tells. tt;
-    nothing = held;
     early = λ before. absurd before;
     counts = keeps;
     gains = inl keeps.failed;
@@ -62,7 +60,7 @@ module _ (needs : Needs) (replies : Contents → List ℕ → Reply → Type 0) 
   formula-ends dialect text replying reading Positive e keeps held = absurd e
   formula-ends dialect text replying reading Negative e keeps held = absurd e
   formula-ends dialect text replying reading OutsideFault e keeps held = absurd e
-  formula-ends dialect text replying reading NoMemory e keeps held = no-memory keeps held
+  formula-ends dialect text replying reading NoMemory e keeps held = no-memory keeps
   formula-ends dialect text replying reading (Refused r) (fault, is, why) keeps held =
       refusal r (λ files rest tells. subst (λ q. replies files rest (refusing q)) (sym is) (replying fault why files rest))
       (λ early may. let f = reading may in formula-or-fault dialect text f.0 fault f.1 why) keeps held
@@ -80,7 +78,6 @@ output-put replies before after text asked reads failed result (inl (ended, adde
         added = added;
         ends = refl;
       };
-      nothing = tt;
       early = λ before. absurd before;
       counts = record { reads = reads; puts = puts; failed = failed };
       gains = inl failed;
@@ -89,7 +86,6 @@ output-put replies before after text asked reads failed result (inl (ended, adde
 output-put replies before after text asked reads failed result (inr (ended, part, rose)) =
     subst (Performs needs_nothing replies ⊥ before after) (sym ended) (record {
       adds = λ files rest tells. inr (record { output = text; ending = Positive }, asked files rest, part.0, part.1);
-      nothing = tt;
       early = λ before. absurd before;
       counts = inr (inl rose);
       gains = inl failed;

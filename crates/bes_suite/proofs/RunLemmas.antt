@@ -13,7 +13,7 @@ use Rattle.bes_suite.specs.Endings.{status_of, message_of, refusal_status}
 use Rattle.bes_suite.specs.Runs.{Told, Finishes}
 use Rattle.bes_suite.specs.Answers.{Contents, AnswersWith, AnswersAs, MayRead, MayReadAs}
 use Rattle.bes_suite.specs.Streams.{is_streaming, Streams}
-use Rattle.bes_suite.specs.Worlds.{World, Needs, needs_of, Tells, IfNeeded, Performs, Gives, Adds, AddsNothing, AddsPrefix, Counts}
+use Rattle.bes_suite.specs.Worlds.{World, Needs, needs_of, Tells, IfNeeded, Performs, NoOutputIsDue, Gives, Adds, AddsPrefix, Counts}
 use Rattle.bes_suite.specs.Results.{Gave, IsAnswered, Partial, HasMessageCause}
 
 -- what the words need, by their command
@@ -35,6 +35,14 @@ pub streams-as : (words : List (List ℕ)) (command : Command) → command ≡ c
 streams-as words command is files rest before after =
     subst (λ c. (Tells (needs_as command words) (MayReadAs command words) before files rest → IfNeeded (is_streaming command) (Streams (AnswersAs command words files) rest before after))
     → Tells (needs_as c words) (MayReadAs c words) before files rest → IfNeeded (is_streaming c) (Streams (AnswersAs c words files) rest before after)) is (λ p. p)
+
+-- and so is what it leaves where no output is due
+pub silent-as : (words : List (List ℕ)) (command : Command) → command ≡ command_of words → (files : Contents) (rest : List ℕ) (before : World) (Stays : Type 0)
+    → (Tells (needs_as command words) (MayReadAs command words) before files rest → NoOutputIsDue (AnswersAs command words files rest) → Stays)
+    → Tells (needs_of words) (MayRead words) before files rest → NoOutputIsDue (AnswersWith words files rest) → Stays
+silent-as words command is files rest before Stays =
+    subst (λ c. (Tells (needs_as command words) (MayReadAs command words) before files rest → NoOutputIsDue (AnswersAs command words files rest) → Stays)
+    → Tells (needs_as c words) (MayReadAs c words) before files rest → NoOutputIsDue (AnswersAs c words files rest) → Stays) is (λ p. p)
 
 -- the status of a refusal is none of an answer, of a fault or of want of memory
 refusal-status : (r : Refusal) → (2 ≤ refusal_status r) × (refusal_status r ≤ 6)
@@ -86,23 +94,10 @@ module _ (needs : Needs) (replies : Reply → Type 0) (may_read : Type 0) (befor
   broken : (ending : Ending) → Gives replies before after ending → AddsPrefix replies before after
   broken ending c = inr (c.reply, c.asked, length c.reply.output, c.added ∙ ap (append_known before.held) (sym (take-length c.reply.output)))
 
-  pub partly : (ending : Ending) → Adds replies before after ending → AddsNothing before after ending → Partial replies before after number
-  partly Positive c n e = broken Positive c
-  partly Negative c n e = broken Negative c
-  partly (Refused r) c n e = broken (Refused r) c
-  partly OutsideFault c n e = c
-  partly NoMemory c n e = inl n
-
--- after 8 there was no memory, so nothing was added
-pub adds-nothing : (before after : World) (ending : Ending) (err told : Option (List ℕ)) (was now number : ℕ) → AddsNothing before after ending
-    → Finishes ending err was told now number → number ≡ 8 → after.held ≡ before.held
-adds-nothing before after Positive err told was now number n (inl t) e = cc
-adds-nothing before after Positive err told was now number n (inr u) e = absurd (u.some refl)
-adds-nothing before after Negative err told was now number n (inl t) e = cc
-adds-nothing before after Negative err told was now number n (inr u) e = absurd (u.some refl)
-adds-nothing before after (Refused r) err told was now number n (inl t) e =
-    absurd (let s = refusal-status r in let u : number ≡ refusal_status r = t.status in omega (arith, s.1))
-adds-nothing before after (Refused r) err told was now number n (inr u) e = cc
-adds-nothing before after OutsideFault err told was now number n (inl t) e = cc
-adds-nothing before after OutsideFault err told was now number n (inr u) e = cc
-adds-nothing before after NoMemory err told was now number n f e = n
+  pub partly : (ending : Ending) → Adds replies before after ending → Finishes ending err was told now number → Partial replies before after number
+  partly Positive c f e = broken Positive c
+  partly Negative c f e = broken Negative c
+  partly (Refused r) c f e = broken (Refused r) c
+  partly OutsideFault c f e = c
+  partly NoMemory c (inl t) e = cc
+  partly NoMemory c (inr u) e = cc

@@ -1,9 +1,9 @@
 -- Texts worked out by hand, so that a wrong rule in the definitions does not check.
-use Rattle.std.proofs.Common.{◌≡◌, refl, [], ◌∷◌, ◌++◌, List, ℕ}
+use Rattle.std.proofs.Common.{◌≡◌, refl, [], ◌∷◌, List, ℕ}
 use Rattle.std.specs.Prelude.{codes}
 use Rattle.forms.specs.Tree.{Formula, Atom, Not, Implies, Iff, Until, Diamond, Test, Seq, Step}
 use Rattle.bes_suite.specs.Showing.{shown}
-use Rattle.bes_suite.specs.AutomatonText.{name_list, letter_text, word_line}
+use Rattle.bes_suite.specs.AutomatonText.{name_list, word_line}
 
 abbrev names : List (List ℕ)
 names = codes "a" ∷ codes "b" ∷ []

@@ -4,10 +4,10 @@ use Rattle.std.specs.Prelude.{slice_get, slice_index_or, Some}
 use Rattle.diagrams.specs.declared.cubes.Cube.{Cube}
 use Rattle.diagrams.specs.Tree.{Assignment, put}
 use Rattle.diagrams.specs.Eval.{letter_truth}
-use Rattle.diagrams.specs.Cubes.{AreCubesOf, IsFree, lead, shown_cube}
+use Rattle.diagrams.specs.Cubes.{AreCubesOf, IsFree, lead, printed_cube}
 use Rattle.automata.specs.Moves.{Moves}
 use Rattle.automata.proofs.Letters.{spelt, spelt-less, spelt-truth}
-use Rattle.minimise.specs.Least.{AreTheSame}
+use Rattle.minimise.specs.Minimal.{AreTheSame}
 use Rattle.bes_suite.specs.AutomatonText.{AreLetterCubes, location_lines, ListsMoves}
 
 -- both functions have the same values
@@ -34,7 +34,7 @@ cubes-one (suc n) v h k e xs ys (inr (f, lo, hi, low, high, is)) (inr (g, los, h
 -- a function on letters has one list of cubes
 letter-cubes-one : (p : ℕ) (f g : ℕ → ℕ) → ((a : ℕ) → a < 2 ^ p → f a ≡ g a) → (xs ys : List Cube) → AreLetterCubes p f xs → AreLetterCubes p g ys → xs ≡ ys
 letter-cubes-one p f g e xs ys x y =
-    x.shown ∙ ap (map shown_cube) (cubes-one p 0 x.value y.value same x.plain y.plain x.are y.are) ∙ sym y.shown
+    x.shown ∙ ap (map printed_cube) (cubes-one p 0 x.value y.value same x.plain y.plain x.are y.are) ∙ sym y.shown
   where
     same : AreEqual x.value y.value
     same a =

@@ -1,5 +1,5 @@
 -- A formula is translated in one way.
-use Rattle.std.proofs.Common.{◌≡◌, ℕ, ◌≤◌, List, zero, suc, ◌++◌, refl, sym, ◌∙◌, ap, subst, length}
+use Rattle.std.proofs.Common.{◌≡◌, ℕ, ◌≤◌, List, [], zero, suc, ◌++◌, refl, sym, ◌∙◌, ap, subst, length}
 use Rattle.std.specs.Prelude.{slice_index, All}
 use Rattle.std.proofs.lemmas.List.{ext_get_or}
 use Rattle.forms.specs.Tree.{Formula}
@@ -13,7 +13,7 @@ use Rattle.automata.specs.Moves.{Moves}
 use Rattle.automata.specs.Table.{Table, size_of, mark_of, row_of, Fits, moves_of}
 use Rattle.automata.specs.Listing as listing
 use Rattle.automata.specs.Listing.{Lists, location_line, round_lines}
-use Rattle.minimise.specs.Least.{IsLeastFor, AreTheSame}
+use Rattle.minimise.specs.Minimal.{IsLeastFor, AreTheSame}
 use Rattle.minimise.proofs.Counts.{size_is_class_count}
 use Rattle.minimise.proofs.Once.{class_count_is_one}
 use Rattle.minimise.proofs.Unique.{least_is_unique}
@@ -27,11 +27,12 @@ use Rattle.distinguish.proofs.Unique.{telling_list_is_unique}
 use Rattle.form_reader.specs.declared.dialect.Dialect.{Dialect}
 use Rattle.translate.specs.declared.fault.TranslateFault.{TranslateFault}
 use Rattle.translate.specs.declared.fault.TranslateFault.TheVariants.{TooMany, Memory}
+use Rattle.bes_suite.specs.declared.endings.Ending.TheVariants.{Positive}
 use Rattle.bes_suite.specs.declared.endings.Refusal.TheVariants as refused
 use Rattle.bes_suite.specs.Formulas.{IsFormula, names_of}
-use Rattle.bes_suite.specs.Worlds.{World, needs_nothing, Performs, KeepsCounts}
+use Rattle.bes_suite.specs.Worlds.{World, needs_nothing, NoOutputIsDue, Performs, KeepsCounts}
 use Rattle.bes_suite.specs.Limits.{most_classes, ending_at_limit}
-use Rattle.bes_suite.specs.Translation.{TranslateAnswers, too_many, IsTranslation, IsOnlyAutomaton}
+use Rattle.bes_suite.specs.Translation.{TranslateAnswers, too_many, translated, IsTranslation, IsOnlyAutomaton}
 use Rattle.bes_suite.proofs.Performing.{refusal, no-memory}
 use Rattle.bes_suite.specs.AutomatonText.{location_lines, ListsMoves, automaton_text}
 use Rattle.bes_suite.proofs.TextLemmas.{lists-one}
@@ -122,9 +123,19 @@ translation_of p names f n t counts words table text e d counted within least sm
     own = subst (λ q. IsLeastFor q (moves_of n t) (λ w. meets p f w)) d
         (record { least = least.least; numbered = least.numbered; decides = decides_of n t (λ w. meets p f w) least })
 
+-- the text of an automaton is not empty
+text-some : (names : List (List ℕ)) (f : Formula) (counts : List ℕ) (size : ℕ) (table : List ℕ) (words : List Word) → automaton_text names f counts size table words ≡ [] → ⊥
+text-some names f counts size table words e = cc
+
+-- where there is a translation, an output is due
+pub translation-due : (dialect : Dialect) (text : List ℕ) (f : Formula) → IsFormula dialect text f → (output : List ℕ) → IsTranslation (names_of dialect text) f output
+    → NoOutputIsDue (TranslateAnswers dialect text) → ⊥
+translation-due dialect text f is output t none =
+    text-some (names_of dialect text) f t.counts t.automaton.size t.table t.words (sym t.whole ∙ none (record { output = output; ending = Positive }) (translated f is t))
+
 -- a formula over the limit ends the run
 pub limit-ends : (dialect : Dialect) (text : List ℕ) (before after : World) (f : Formula) → IsFormula dialect text f → (fault : TranslateFault) → IfTooMany fault (IsFirstOver (length (names_of dialect text)) f most_classes)
     → KeepsCounts before after → after.held ≡ before.held → Performs needs_nothing (λ files rest. TranslateAnswers dialect text) ⊥ before after (ending_at_limit fault)
 limit-ends dialect text before after f is (TooMany part count) over keeps held =
     refusal needs_nothing (λ files rest. TranslateAnswers dialect text) ⊥ before after (refused.TooMany part count) (λ files rest tells. too_many f is over) (λ early may. may) keeps held
-limit-ends dialect text before after f is Memory over keeps held = no-memory needs_nothing (λ files rest. TranslateAnswers dialect text) ⊥ before after keeps held
+limit-ends dialect text before after f is Memory over keeps held = no-memory needs_nothing (λ files rest. TranslateAnswers dialect text) ⊥ before after keeps

@@ -14,7 +14,7 @@ use Rattle.bes_suite.specs.Replies.{Reply, refusing}
 use Rattle.bes_suite.specs.Commands.{command_of}
 use Rattle.bes_suite.specs.Traces.{most_input, AreEvents, trace_refusal}
 use Rattle.bes_suite.specs.Formulas.{names_of}
-use Rattle.bes_suite.specs.Judge.{JudgeAnswers, formula_refused, input_refused, no_event, judged, verdict}
+use Rattle.bes_suite.specs.Judge.{JudgeAnswers, formula_refused, input_refused, no_event, judged, answer_reply}
 use Rattle.bes_suite.specs.Showing as showing
 use Rattle.bes_suite.specs.Showing.{FormsAnswers}
 use Rattle.bes_suite.specs.Translation as translation
@@ -23,13 +23,13 @@ use Rattle.bes_suite.specs.Translation.{TranslateAnswers, IsTranslation}
 use Rattle.translate.specs.Counting.{IsFirstOver}
 use Rattle.translate.proofs.CountLemmas.{first_over_is_one}
 use Rattle.bes_suite.specs.Monitoring as monitoring
-use Rattle.bes_suite.specs.Monitoring.{MonitorAnswers, IsWatched, AreWithin}
+use Rattle.bes_suite.specs.Monitoring.{MonitorAnswers, IsMonitored, AreWithin}
 use Rattle.bes_suite.specs.Answers.{Contents, AnswersWith, AnswersAs}
 use Rattle.bes_suite.proofs.FormulaLemmas.{one-formula, formula-or-fault}
 use Rattle.bes_suite.proofs.TranslationLemmas.{translation-one, over-or-translated}
 use Rattle.bes_io.proofs.LinesLemmas.{one-reading}
 use Rattle.bes_suite.proofs.TraceLemmas.{not-refused}
-use Rattle.bes_suite.proofs.WatchLemmas.{one-watched}
+use Rattle.bes_suite.proofs.MonitorLines.{one-monitored}
 use Rattle.bes_suite.proofs.OpenLemmas.{over-or-within}
 use Rattle.translate.specs.Counting.{IsFirstOver}
 use Rattle.translate.proofs.CountLemmas.{first_over_is_one}
@@ -88,7 +88,7 @@ module _ {dialect : Dialect} {text rest : List ℕ} where
       let same : ls ≡ ks = (one-reading h k).0 in
       let words : letter ∷ word ≡ other ∷ later = one-word (names_of dialect text) ks _ _ (subst (λ l. AreEvents (names_of dialect text) l (letter ∷ word)) same e) m in
       let forms : f ≡ g = one-formula dialect text f g a b in
-      ap (λ x. verdict (meets (length (names_of dialect text)) x (letter ∷ word))) forms ∙ ap (λ w. verdict (meets (length (names_of dialect text)) g w)) words
+      ap (λ x. answer_reply (meets (length (names_of dialect text)) x (letter ∷ word))) forms ∙ ap (λ w. answer_reply (meets (length (names_of dialect text)) g w)) words
 
 -- a formula is shown in one way
 one-showing : {dialect : Dialect} {text : List ℕ} {c d : Reply} → FormsAnswers dialect text c → FormsAnswers dialect text d → c ≡ d
@@ -125,32 +125,32 @@ one-translation {dialect} {text} (translation.translated {output = xs} f a made)
     let forms : f ≡ g = one-formula dialect text f g a b in
     ap (λ z. record { output = z; ending = Positive }) (translation-one names g xs ys (subst (λ z. IsTranslation names z xs) forms made) again)
 
--- and watched in one way
-one-watching : {dialect : Dialect} {text rest : List ℕ} {c d : Reply} → MonitorAnswers dialect text rest c → MonitorAnswers dialect text rest d → c ≡ d
-one-watching (monitoring.formula_refused {fault = x} a) (monitoring.formula_refused {fault = y} b) =
+-- and monitored in one way
+one-monitoring : {dialect : Dialect} {text rest : List ℕ} {c d : Reply} → MonitorAnswers dialect text rest c → MonitorAnswers dialect text rest d → c ≡ d
+one-monitoring (monitoring.formula_refused {fault = x} a) (monitoring.formula_refused {fault = y} b) =
     let same : x ≡ y = cc in ap (λ z. refusing (refusal.Formula z)) same
-one-watching {dialect = dialect} {text = text} (monitoring.formula_refused a) (monitoring.too_many b h) = absurd (formula-or-fault dialect text _ _ b a)
-one-watching {dialect = dialect} {text = text} (monitoring.formula_refused a) (monitoring.watched b h w) = absurd (formula-or-fault dialect text _ _ b a)
-one-watching {dialect = dialect} {text = text} (monitoring.too_many a h) (monitoring.formula_refused b) = absurd (formula-or-fault dialect text _ _ a b)
-one-watching {dialect = dialect} {text = text} (monitoring.too_many {f = f} {part = i} {count = m} a h) (monitoring.too_many {f = g} {part = j} {count = n} b k) =
+one-monitoring {dialect = dialect} {text = text} (monitoring.formula_refused a) (monitoring.too_many b h) = absurd (formula-or-fault dialect text _ _ b a)
+one-monitoring {dialect = dialect} {text = text} (monitoring.formula_refused a) (monitoring.monitored b h w) = absurd (formula-or-fault dialect text _ _ b a)
+one-monitoring {dialect = dialect} {text = text} (monitoring.too_many a h) (monitoring.formula_refused b) = absurd (formula-or-fault dialect text _ _ a b)
+one-monitoring {dialect = dialect} {text = text} (monitoring.too_many {f = f} {part = i} {count = m} a h) (monitoring.too_many {f = g} {part = j} {count = n} b k) =
     let p = length (names_of dialect text) in
     let moved = subst (λ x. IsFirstOver p x most_classes i m) (one-formula dialect text f g a b) h in
     let same = first_over_is_one p g most_classes i j m n moved k in
     ap (λ x. refusing (refusal.TooMany x m)) same.0 ∙ ap (λ x. refusing (refusal.TooMany j x)) same.1
-one-watching {dialect = dialect} {text = text} (monitoring.too_many {f = f} {part = i} {count = m} a h) (monitoring.watched {f = g} b k w) =
+one-monitoring {dialect = dialect} {text = text} (monitoring.too_many {f = f} {part = i} {count = m} a h) (monitoring.monitored {f = g} b k w) =
     absurd (over-or-within (names_of dialect text) g i m (subst (λ x. IsFirstOver (length (names_of dialect text)) x most_classes i m) (one-formula dialect text f g a b) h) k)
-one-watching {dialect = dialect} {text = text} (monitoring.watched a h w) (monitoring.formula_refused b) = absurd (formula-or-fault dialect text _ _ a b)
-one-watching {dialect = dialect} {text = text} (monitoring.watched {f = f} a h w) (monitoring.too_many {f = g} {part = j} {count = n} b k) =
+one-monitoring {dialect = dialect} {text = text} (monitoring.monitored a h w) (monitoring.formula_refused b) = absurd (formula-or-fault dialect text _ _ a b)
+one-monitoring {dialect = dialect} {text = text} (monitoring.monitored {f = f} a h w) (monitoring.too_many {f = g} {part = j} {count = n} b k) =
     absurd (over-or-within (names_of dialect text) g j n k (subst (λ x. AreWithin (names_of dialect text) x) (one-formula dialect text f g a b) h))
-one-watching {dialect = dialect} {text = text} {rest = rest} (monitoring.watched {f = f} {reply = c} a h w) (monitoring.watched {f = g} b k z) =
-    one-watched (names_of dialect text) g (subst (λ x. IsWatched (names_of dialect text) x rest c) (one-formula dialect text f g a b) w) z
+one-monitoring {dialect = dialect} {text = text} {rest = rest} (monitoring.monitored {f = f} {reply = c} a h w) (monitoring.monitored {f = g} b k z) =
+    one-monitored (names_of dialect text) g (subst (λ x. IsMonitored (names_of dialect text) x rest c) (one-formula dialect text f g a b) w) z
 
 one-as : (command : Command) (words : List (List ℕ)) (files : Contents) (rest : List ℕ) (c d : Reply) → AnswersAs command words files rest c → AnswersAs command words files rest d → c ≡ d
 one-as Usage words files rest c d p q = p ∙ sym q
 one-as (Judge dialect) words files rest c d p q = one-judgement p q
 one-as (Forms dialect) words files rest c d p q = one-showing p q
 one-as (Translate dialect) words files rest c d p q = one-translation p q
-one-as (Monitor dialect) words files rest c d p q = one-watching p q
+one-as (Monitor dialect) words files rest c d p q = one-monitoring p q
 
 -- the words, the files and the input ask for one thing
 pub one-reply : (words : List (List ℕ)) (files : Contents) (rest : List ℕ) (c d : Reply) → AnswersWith words files rest c → AnswersWith words files rest d → c ≡ d

@@ -10,7 +10,7 @@ use Rattle.bes_suite.specs.Formulas.{IsFormula}
 use Rattle.bes_suite.specs.Judge.{JudgeAnswers}
 use Rattle.bes_suite.specs.Showing.{FormsAnswers}
 use Rattle.bes_suite.specs.Translation.{TranslateAnswers}
-use Rattle.bes_suite.specs.Monitoring.{MonitorAnswers, IsWatchable}
+use Rattle.bes_suite.specs.Monitoring.{MonitorAnswers, IsFormulaWithinLimit}
 
 -- what the files hold, by their names
 abbrev pub Contents : Type 0
@@ -34,7 +34,7 @@ MayReadAs Usage words = ⊥
 MayReadAs (Judge dialect) words = (f : Formula) × IsFormula dialect (word_at words 2) f
 MayReadAs (Forms dialect) words = ⊥
 MayReadAs (Translate dialect) words = ⊥
-MayReadAs (Monitor dialect) words = IsWatchable dialect (word_at words 2)
+MayReadAs (Monitor dialect) words = IsFormulaWithinLimit dialect (word_at words 2)
 
 -- whether the words come to asking the input
 abbrev pub MayRead : List (List ℕ) → Type 0

@@ -1,4 +1,5 @@
--- The text of a translated formula: its names, the class counts of its parts, its automaton, and words that tell locations apart.
+-- The text of a translated formula: its names, the class counts of its parts, its automaton, and words that tell
+-- locations apart.
 use Rattle.std.specs.Prelude.{◌≡◌, ◌<◌, ◌^◌, ◌==◌, ℕ, zero, suc, List, [], ◌++◌, map, length, slice_index, slice_index_or, codes, decimal, Option, Some, None, if◌then◌else◌}
 use Rattle.bes_io.specs.Letter.{has}
 use Rattle.forms.specs.Tree.{Formula}
@@ -8,7 +9,7 @@ use Rattle.form_reader.specs.Printed.{printed}
 use Rattle.diagrams.specs.declared.cubes.Cube.{Cube}
 use Rattle.diagrams.specs.Tree.{Assignment}
 use Rattle.diagrams.specs.Eval.{letter_truth}
-use Rattle.diagrams.specs.Cubes.{AreCubesOf, shown_cube}
+use Rattle.diagrams.specs.Cubes.{AreCubesOf, printed_cube}
 use Rattle.automata.specs.Moves.{Moves}
 use Rattle.automata.specs.Listing.{location_line, round_lines}
 
@@ -62,7 +63,7 @@ pub record AreLetterCubes (p : ℕ) (f : ℕ → ℕ) (cubes : List Cube) : Type
   pub over : (a b : Assignment) → ((v : ℕ) → v < p → a v ≡ b v) → value a ≡ value b
   pub plain : List Cube
   pub are : AreCubesOf p 0 value plain
-  pub shown : cubes ≡ map shown_cube plain
+  pub shown : cubes ≡ map printed_cube plain
 
 -- for each of the first so many locations its line and those of its cubes
 abbrev pub location_lines : Moves → (ℕ → List Cube) → ℕ → List ℕ

@@ -28,14 +28,8 @@ IsRefused dialect text fault = first_refusal dialect no_names text ≡ Some faul
 
 -- reading a formula ends a run: a refusal at its place, or want of memory
 abbrev pub fault_ending : FormFault → Ending
-fault_ending (form.BadByte at) = Refused (refusal.Formula (form.BadByte at))
-fault_ending (form.Unexpected at) = Refused (refusal.Formula (form.Unexpected at))
-fault_ending form.Unfinished = Refused (refusal.Formula form.Unfinished)
-fault_ending (form.TooDeep at) = Refused (refusal.Formula (form.TooDeep at))
-fault_ending (form.TooManyTokens at) = Refused (refusal.Formula (form.TooManyTokens at))
-fault_ending (form.TooManyNames at) = Refused (refusal.Formula (form.TooManyNames at))
-fault_ending (form.Undeclared at) = Refused (refusal.Formula (form.Undeclared at))
 fault_ending form.Memory = NoMemory
+fault_ending fault = Refused (refusal.Formula fault)
 
 -- what reading a formula says of how the run ends
 abbrev pub EndsAtFormula : Dialect → List ℕ → Ending → Type 0

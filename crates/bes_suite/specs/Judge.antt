@@ -14,11 +14,11 @@ use Rattle.bes_suite.specs.Formulas.{IsFormula, IsRefused, names_of}
 use Rattle.bes_suite.specs.Traces.{most_input, AreEvents, trace_refusal}
 
 -- the answer, and how the run ends with it
-abbrev pub verdict : Bool → Reply
-verdict true = record { output = codes "true\n"; ending = Positive }
-verdict false = record { output = codes "false\n"; ending = Negative }
+abbrev pub answer_reply : Bool → Reply
+answer_reply true = record { output = codes "true\n"; ending = Positive }
+answer_reply false = record { output = codes "false\n"; ending = Negative }
 
--- the lines of the input are events, and the formula's verdict on their letters is this
+-- the lines of the input are events, and the formula's answer on their letters is this
 pub record IsJudged (names : List (List ℕ)) (f : Formula) (rest : List ℕ) (answer : Bool) : Type 0 where
   pub lines : List (List ℕ)
   pub letter : ℕ
@@ -45,10 +45,10 @@ pub data JudgeAnswers : Dialect → List ℕ → List ℕ → Reply → Type 0 w
   judged : {dialect : Dialect} {text rest : List ℕ} {f : Formula} {lines : List (List ℕ)} (letter : ℕ) (word : List ℕ) →
       IsFormula dialect text f → HasLines most_input rest lines at_end →
       AreEvents (names_of dialect text) lines (letter ∷ word) →
-      JudgeAnswers dialect text rest (verdict (meets_trace (length (names_of dialect text)) f (letter ∷ word)))
+      JudgeAnswers dialect text rest (answer_reply (meets_trace (length (names_of dialect text)) f (letter ∷ word)))
 
--- what judging the input gives: the verdict, or what is refused first
-abbrev pub GivesVerdict : List (List ℕ) → Formula → List ℕ → Result Bool Ending → Option (List ℕ) → Type 0
-GivesVerdict names f rest (Ok answer) left = (left ≡ Some []) × IsJudged names f rest answer
-GivesVerdict names f rest (Err (Refused r)) left = IsInputRefused names rest r
-GivesVerdict names f rest (Err ending) left = Unit {0}
+-- what judging the input gives: the answer, or what is refused first
+abbrev pub GivesAnswer : List (List ℕ) → Formula → List ℕ → Result Bool Ending → Option (List ℕ) → Type 0
+GivesAnswer names f rest (Ok answer) left = (left ≡ Some []) × IsJudged names f rest answer
+GivesAnswer names f rest (Err (Refused r)) left = IsInputRefused names rest r
+GivesAnswer names f rest (Err ending) left = Unit {0}

@@ -10,7 +10,7 @@ pub mod Limits
 pub mod AutomatonText
 pub mod Translation
 pub mod Monitoring
-pub mod Watching
+pub mod OpenedMonitor
 pub mod Answers
 pub mod Worlds
 pub mod Streams

@@ -33,8 +33,8 @@ IsLineRefused (Refused (LineTooLong line)) = Unit {0}
 IsLineRefused (Refused (InputTooLong line)) = Unit {0}
 IsLineRefused ending = ⊥
 
--- The input failed: of its bytes whole lines were taken and the front of one more, none of these lines is refused, and the
--- output gained what is due for them.
+-- The input failed: of its bytes whole lines were taken and the front of one more, none of these lines is refused, and
+-- the output gained what is due for them.
 pub record StopsReading (replies : List ℕ → Reply → Type 0) (rest : List ℕ) (before after : World) : Type 0 where
   pub lines : List ℕ
   pub part : List ℕ
@@ -49,7 +49,8 @@ pub record StopsReading (replies : List ℕ → Reply → Type 0) (rest : List �
   pub added : after.held ≡ append_known before.held reply.output
 
 -- The output failed at one line: it gained what is due for the lines of input before the one that this line of output
--- needs, and a prefix of this line. Right after the line of input that it needs, fewer than 4,097 bytes more were taken.
+-- needs, and a prefix of this line. Right after the line of input that it needs, fewer than 4,097 bytes more were
+-- taken.
 pub record StopsWriting (replies : List ℕ → Reply → Type 0) (rest : List ℕ) (before after : World) : Type 0 where
   pub earlier : List ℕ
   pub needed : List ℕ

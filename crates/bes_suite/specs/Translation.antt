@@ -7,7 +7,7 @@ use Rattle.forms.specs.Satisfaction.{meets}
 use Rattle.form_reader.specs.declared.dialect.Dialect.{Dialect}
 use Rattle.form_reader.specs.declared.fault.FormFault.{FormFault}
 use Rattle.automata.specs.Moves.{Moves, IsClosed}
-use Rattle.minimise.specs.Least.{IsLeastFor, Decides, AreTheSame}
+use Rattle.minimise.specs.Minimal.{IsLeastFor, Decides, AreTheSame}
 use Rattle.translate.specs.Counting.{AreCounts, IsFirstOver}
 use Rattle.distinguish.specs.Telling.{IsTellingList}
 use Rattle.bes_suite.specs.declared.endings.Ending.TheVariants.{Positive}
@@ -17,8 +17,8 @@ use Rattle.bes_suite.specs.Formulas.{IsFormula, IsRefused, names_of}
 use Rattle.bes_suite.specs.Limits.{most_classes}
 use Rattle.bes_suite.specs.AutomatonText.{ListsMoves, automaton_text}
 
--- The text of a formula's automaton: the class counts of its parts and of its whole, the least automaton of its traces, numbered by least
--- words, and the words that tell its locations apart.
+-- The text of a formula's automaton: the class counts of its parts and of its whole, the least automaton of its
+-- traces, numbered by least words, and the words that tell its locations apart.
 pub record IsTranslation (names : List (List ℕ)) (f : Formula) (text : List ℕ) : Type 0 where
   pub counts : List ℕ
   pub counted : AreCounts (length names) f counts
@@ -33,7 +33,8 @@ pub record IsTranslation (names : List (List ℕ)) (f : Formula) (text : List �
   pub lists : ListsMoves (length names) automaton table
   pub whole : text ≡ automaton_text names f counts automaton.size table words
 
--- the automaton is the same for every claim with the formula's traces, and no automaton that decides them has fewer locations
+-- the automaton is the same for every claim with the formula's traces, and no automaton that decides them has fewer
+-- locations
 pub record IsOnlyAutomaton (p : ℕ) (f : Formula) (m : Moves) : Type 0 where
   pub unique : (g : Claim) (n : Moves) → ((w : Word) → IsOver p w → g w ≡ meets p f w) → IsLeastFor p n g → AreTheSame p n m
   pub smallest : (n : Moves) → IsClosed p n → Decides p n (λ w. meets p f w) → m.size ≤ n.size

@@ -56,6 +56,10 @@ pub record Tells (needs : Needs) (may_read : Type 0) (world : World) (files : Co
   pub told_files : IfNeeded (is_needed needs.file) (world.contents ≡ Some files)
   pub told_input : may_read → world.left ≡ Some rest
 
+-- no output is due: that of each reply that holds is empty
+abbrev pub NoOutputIsDue : (Reply → Type 0) → Type 0
+NoOutputIsDue replies = (reply : Reply) → replies reply → reply.output ≡ []
+
 -- the reply holds: its output was added, and this is how it ends
 pub record Gives (replies : Reply → Type 0) (before after : World) (ending : Ending) : Type 0 where
   pub reply : Reply
@@ -73,11 +77,6 @@ abbrev pub Adds : (Reply → Type 0) → World → World → Ending → Type 0
 Adds replies before after OutsideFault = AddsPrefix replies before after
 Adds replies before after NoMemory = Unit {0}
 Adds replies before after ending = Gives replies before after ending
-
--- want of memory comes before anything was added to the output
-abbrev pub AddsNothing : World → World → Ending → Type 0
-AddsNothing before after NoMemory = after.held ≡ before.held
-AddsNothing before after ending = Unit {0}
 
 -- the named file, and it alone, joined the names that failed
 abbrev pub FileFailed : Option (List ℕ) → List (List ℕ) → List (List ℕ) → Type 0
@@ -113,7 +112,6 @@ Gains file before after = (after ≡ before) ⊎ FileFailed file before after
 -- What a command does, whatever it is: `replies` is what it is asked for.
 pub record Performs (needs : Needs) (replies : Contents → List ℕ → Reply → Type 0) (may_read : Type 0) (before after : World) (ending : Ending) : Type 0 where
   pub adds : (files : Contents) (rest : List ℕ) → Tells needs may_read before files rest → Adds (replies files rest) before after ending
-  pub nothing : AddsNothing before after ending
   pub early : IsBeforeInput ending → ¬ may_read
   pub counts : Counts needs may_read before after ending
   pub gains : Gains needs.file before.failed after.failed

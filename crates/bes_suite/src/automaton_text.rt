@@ -12,7 +12,7 @@ use forms::Form;
 use std::alloc::Global;
 use translate::Counts;
 
-// Appends the names.
+/// Appends the names.
 fn push_names(text: &mut Text, names: &Names) -> Result<(), Memory>
     ensures { OnOk result (text.new ≡ text.old ++ name_list names.now.names (length names.now.names)) }
 {
@@ -23,7 +23,7 @@ fn push_names(text: &mut Text, names: &Names) -> Result<(), Memory>
     Ok(())
 }
 
-// Appends the line of part k, counted from 0.
+/// Appends the line of part k, counted from 0.
 fn push_part(
     alloc: Global,
     text: &mut Text,
@@ -35,7 +35,8 @@ fn push_part(
     requires proper { IsProper (length names.now.names) (tree form.now) }
     requires part { k < length (listed.parts (tree form.now)) }
     requires few { k + 1 < 2 ^ 64 }
-    ensures { (counts : List ℕ) → slice_index counts k ≡ count → OnOk result (text.new ≡ text.old ++ part_line names.now.names (tree form.now) counts k) }
+    ensures { (counts : List ℕ) → slice_index counts k ≡ count →
+        OnOk result (text.new ≡ text.old ++ part_line names.now.names (tree form.now) counts k) }
 {
     let number = k as u64 + 1;
     let part = print_part(alloc, form, number, names)?;
@@ -48,7 +49,7 @@ fn push_part(
     text.push(b"\n")
 }
 
-// Appends a line for each part.
+/// Appends a line for each part.
 fn push_parts(
     alloc: Global,
     text: &mut Text,
@@ -66,7 +67,7 @@ fn push_parts(
     Ok(())
 }
 
-// Appends the bits of a letter.
+/// Appends the bits of a letter.
 fn push_bits(text: &mut Text, props: u32, letter: u64) -> Result<(), Memory>
     requires { props ≤ 32 }
     ensures { OnOk result (text.new ≡ text.old ++ bits_of props letter props) }
@@ -81,7 +82,7 @@ fn push_bits(text: &mut Text, props: u32, letter: u64) -> Result<(), Memory>
     Ok(())
 }
 
-// Appends a letter.
+/// Appends a letter.
 fn push_letter(text: &mut Text, props: u32, letter: u64) -> Result<(), Memory>
     requires { props ≤ 32 }
     ensures { OnOk result (text.new ≡ text.old ++ letter_text props letter) }
@@ -93,7 +94,7 @@ fn push_letter(text: &mut Text, props: u32, letter: u64) -> Result<(), Memory>
     }
 }
 
-// Appends the letters of a word.
+/// Appends the letters of a word.
 fn push_letters(text: &mut Text, props: u32, word: &Letters) -> Result<(), Memory>
     requires { props ≤ 32 }
     ensures { OnOk result (text.new ≡ text.old ++ letter_list props word.now (length word.now)) }
@@ -105,7 +106,7 @@ fn push_letters(text: &mut Text, props: u32, word: &Letters) -> Result<(), Memor
     Ok(())
 }
 
-// Appends the line of a word.
+/// Appends the line of a word.
 fn push_word(text: &mut Text, props: u32, word: &Letters) -> Result<(), Memory>
     requires { props ≤ 32 }
     ensures { OnOk result (text.new ≡ text.old ++ word_line props word.now) }
@@ -118,7 +119,7 @@ fn push_word(text: &mut Text, props: u32, word: &Letters) -> Result<(), Memory>
     text.push(b"\n")
 }
 
-// Appends a line for each word.
+/// Appends a line for each word.
 fn push_words(text: &mut Text, props: u32, words: &Words) -> Result<(), Memory>
     requires { props ≤ 32 }
     ensures { OnOk result (text.new ≡ text.old ++ word_lines props words.now (length words.now)) }
@@ -129,7 +130,7 @@ fn push_words(text: &mut Text, props: u32, words: &Words) -> Result<(), Memory>
     Ok(())
 }
 
-// The whole text, of these lines for the automaton's locations.
+/// The whole text, of these lines for the automaton's locations.
 pub fn whole_text(
     alloc: Global,
     form: &Form,

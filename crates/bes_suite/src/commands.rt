@@ -21,14 +21,14 @@ pub enum Command {
     Monitor(Dialect),
 }
 
-// Whether the word is this text.
+/// Whether the word is this text.
 fn is_word(word: &Word, text: &[u8]) -> bool
     ensures { result ≡ bytes_eq word.now text.now }
 {
     word.bytes() == text
 }
 
-// The dialect that the word names.
+/// The dialect that the word names.
 fn find_dialect(word: &Word) -> Option<Dialect>
     ensures { result ≡ dialect_of word.now }
 {
@@ -41,7 +41,7 @@ fn find_dialect(word: &Word) -> Option<Dialect>
     }
 }
 
-// The command that a word names, in a dialect.
+/// The command that a word names, in a dialect.
 fn find_command_in(word: &Word, dialect: Dialect) -> Command
     ensures { result ≡ command_in word.now dialect }
 {
@@ -58,7 +58,7 @@ fn find_command_in(word: &Word, dialect: Dialect) -> Command
     }
 }
 
-// The command of the words.
+/// The command of the words.
 pub fn find_command(words: &[Word]) -> Command
     ensures { result ≡ command_of words.now }
 {

@@ -57,10 +57,10 @@ fn refusal_number(refusal: Refusal) -> u8
         Refusal::Usage => 2,
         Refusal::Formula(_) => 3,
         Refusal::TooMany { .. } => 5,
-        Refusal::NoEvent => 4,
-        Refusal::Event { .. } => 4,
-        Refusal::LineTooLong { .. } => 4,
-        Refusal::InputTooLong { .. } => 4,
+        Refusal::NoEvent
+        | Refusal::Event { .. }
+        | Refusal::LineTooLong { .. }
+        | Refusal::InputTooLong { .. } => 4,
     }
 }
 
@@ -76,7 +76,7 @@ fn number(ending: Ending) -> u8
     }
 }
 
-// Puts the message of the ending, if it has one, and answers the status.
+/// Puts the message of the ending, if it has one, and answers the status.
 pub fn finish<E: Sink>(ending: Ending, err: &mut E) -> Status
     ensures finishes { Finishes ending (E.held err.old) (E.faults err.old) (E.held err.new) (E.faults err.new) result.number }
     ensures quiet { message_of ending ≡ [] → err.new ≡ err.old }

@@ -1,13 +1,13 @@
 //! The command `judge`.
-ghost use Rattle.std.specs.Prelude.{◌≡◌, ℕ, List, [], Option, Some, MatchResult, IfErr, false, length};
+ghost use Rattle.std.specs.Prelude.{◌≡◌, ℕ, ◌<◌, List, Option, Some, IfErr, length};
 ghost use Rattle.forms.specs.Tree.{Formula, tree};
 ghost use Rattle.forms.specs.Proper.{IsProper};
 ghost use Rattle.bes_suite.specs.Endings.{IsBeforeInput};
-ghost use Rattle.bes_suite.specs.Formulas.{IsFormula, names_of, no_names, fault_ending, EndsAtFormula};
-ghost use Rattle.bes_suite.specs.Judge.{JudgeAnswers, verdict, GivesVerdict};
+ghost use Rattle.bes_suite.specs.Formulas.{IsFormula};
+ghost use Rattle.bes_suite.specs.Judge.{JudgeAnswers, answer_reply, GivesAnswer};
 ghost use Rattle.bes_suite.specs.Letters.{HasTraceCause};
 ghost use Rattle.bes_suite.specs.Answers.{Contents};
-ghost use Rattle.bes_suite.specs.Worlds.{world, needs_input, Performs, PutsAll};
+ghost use Rattle.bes_suite.specs.Worlds.{world, needs_input, NoOutputIsDue, Performs, PutsAll};
 
 use crate::endings::{Ending, Refusal};
 use crate::formulas::read_formula;
@@ -19,7 +19,7 @@ use forms::Form;
 use std::alloc::Global;
 use trace_meaning::judge;
 
-// The verdict of the formula on the trace that the input gives.
+/// The answer of the formula on the trace that the input gives.
 fn judge_input<S: Source>(
     alloc: Global,
     form: &Form,
@@ -27,15 +27,12 @@ fn judge_input<S: Source>(
     input: &mut S,
 ) -> Result<bool, Ending>
     requires { IsProper (length names.now.names) (tree form.now) }
-    ensures verdict { (rest : List ℕ) → S.left input.old ≡ Some rest
-        → GivesVerdict names.now.names (tree form.now) rest result (S.left input.new) }
+    ensures answer { (rest : List ℕ) → S.left input.old ≡ Some rest
+        → GivesAnswer names.now.names (tree form.now) rest result (S.left input.new) }
     ensures cause { HasTraceCause (S.faults input.old) (S.faults input.new) result }
     ensures late { IfErr result (λ ending. ¬ IsBeforeInput ending) }
 {
-    let letters = match read_trace(alloc, names, input) {
-        Ok(letters) => letters,
-        Err(ending) => return Err(ending),
-    };
+    let letters = read_trace(alloc, names, input)?;
     if letters.len() == 0 {
         return Err(Ending::Refused(Refusal::NoEvent));
     }
@@ -45,9 +42,10 @@ fn judge_input<S: Source>(
     }
 }
 
-// Puts the verdict.
-fn put_verdict<O: Sink>(answer: bool, out: &mut O) -> Ending
-    ensures { PutsAll (verdict answer).output (verdict answer).ending (O.held out.old) (O.faults out.old) (O.held out.new) (O.faults out.new) result }
+/// Puts the answer.
+fn put_answer<O: Sink>(answer: bool, out: &mut O) -> Ending
+    ensures { PutsAll (answer_reply answer).output (answer_reply answer).ending
+        (O.held out.old) (O.faults out.old) (O.held out.new) (O.faults out.new) result }
 {
     if answer {
         put_all(b"true\n", Ending::Positive, out)
@@ -56,7 +54,7 @@ fn put_verdict<O: Sink>(answer: bool, out: &mut O) -> Ending
     }
 }
 
-/// Judges the input by the formula, and puts the verdict.
+/// Judges the input by the formula, and puts the answer.
 pub fn judge_formula<S: Source, O: Sink>(
     alloc: Global,
     dialect: Dialect,
@@ -68,17 +66,18 @@ pub fn judge_formula<S: Source, O: Sink>(
         Performs needs_input (λ files rest. JudgeAnswers dialect text.now rest) ((f : Formula) × IsFormula dialect text.now f)
         (world contents failed (S.left input.old) (S.faults input.old) (O.held out.old) (O.faults out.old))
         (world contents failed (S.left input.new) (S.faults input.new) (O.held out.new) (O.faults out.new)) result }
+    ensures silent { (rest : List ℕ) → ((f : Formula) × IsFormula dialect text.now f → S.left input.old ≡ Some rest) →
+        NoOutputIsDue (JudgeAnswers dialect text.now rest) → out.new ≡ out.old }
+    ensures nothing { result ≡ Ending.NoMemory → out.new ≡ out.old }
+    ensures unwritten { S.faults input.old < S.faults input.new → out.new ≡ out.old }
     ensures unread { ¬ ((f : Formula) × IsFormula dialect text.now f) → input.new ≡ input.old }
 {
-    let Ok(mut names) = Names::new(alloc) else {
-        return Ending::NoMemory;
-    };
-    let form = match read_formula(alloc, dialect, text, &mut names) {
-        Ok(form) => form,
+    let (form, names) = match read_formula(alloc, dialect, text) {
+        Ok(read) => read,
         Err(ending) => return ending,
     };
     match judge_input(alloc, &form, &names, input) {
-        Ok(answer) => put_verdict(answer, out),
+        Ok(answer) => put_answer(answer, out),
         Err(ending) => ending,
     }
 }

@@ -15,8 +15,6 @@ mod monitoring;
 mod putting;
 mod running;
 mod showing;
-#[cfg(test)]
-mod tests;
 mod traces;
 mod translation;
 

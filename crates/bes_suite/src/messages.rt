@@ -25,7 +25,7 @@ impl Model for Message {
 }
 
 impl Message {
-    // The empty message.
+    /// The empty message.
     pub fn new() -> Message
         ensures { result ≡ [] }
     {
@@ -34,7 +34,7 @@ impl Message {
         }
     }
 
-    // Appends the piece.
+    /// Appends the piece.
     pub fn text(mut self, piece: &[u8]) -> Message
         requires { length self + length piece.now ≤ 4097 }
         ensures { result ≡ self ++ piece.now }
@@ -45,7 +45,7 @@ impl Message {
         }
     }
 
-    // Appends the decimal digits of the number, of which there are at most 20.
+    /// Appends the decimal digits of the number, of which there are at most 20.
     pub fn number(self, n: u64) -> Message
         requires { length self + 20 ≤ 4097 }
         ensures text { result ≡ self ++ decimal n }
@@ -55,14 +55,14 @@ impl Message {
         self.text(buffer.format(n).as_bytes())
     }
 
-    // Its bytes.
+    /// Its bytes.
     pub fn bytes(&self) -> &[u8]
         ensures { result.now ≡ self.now }
     {
         &self.bytes
     }
 
-    // Whether it has none.
+    /// Whether it has none.
     pub fn is_empty(&self) -> bool
         ensures { IsTrue result ↔ (self.now ≡ []) }
     {
@@ -70,7 +70,7 @@ impl Message {
     }
 }
 
-// Appends the words and a place, which has at most 20 digits.
+/// Appends the words and a place, which has at most 20 digits.
 fn placed(message: Message, words: &[u8], at: u64) -> Message
     requires { length message + length words.now + 20 ≤ 4097 }
     ensures text { result ≡ message ++ (words.now ++ decimal at) }
@@ -79,7 +79,7 @@ fn placed(message: Message, words: &[u8], at: u64) -> Message
     message.text(words).number(at)
 }
 
-// Appends why a formula is refused.
+/// Appends why a formula is refused.
 #[tactic(auto, unfolding(crate::specs::Endings::form_fault_text))]
 fn with_form_fault(message: Message, fault: FormFault) -> Message
     requires { length message ≤ 1000 }
@@ -98,7 +98,7 @@ fn with_form_fault(message: Message, fault: FormFault) -> Message
     }
 }
 
-// Appends why a line is no event.
+/// Appends why a line is no event.
 #[tactic(auto, unfolding(crate::specs::Endings::event_fault_text))]
 fn with_event_fault(message: Message, fault: EventFault) -> Message
     requires { length message ≤ 1000 }
@@ -111,7 +111,7 @@ fn with_event_fault(message: Message, fault: EventFault) -> Message
     }
 }
 
-// The front of a message on a line of the input.
+/// The front of a message on a line of the input.
 fn at_line(line: u64) -> Message
     ensures text { result ≡ codes "bes: input line " ++ decimal line ++ codes ": " }
     ensures short { length result ≤ 100 }
@@ -125,7 +125,7 @@ fn at_line(line: u64) -> Message
 const USAGE: &[u8] =
     b"usage: bes judge|forms|translate|monitor DIALECT FORMULA, synth|play SPEC, check, demo N\n";
 
-// The message of a refusal.
+/// The message of a refusal.
 #[tactic(auto, unfolding(crate::specs::Endings::refusal_text, crate::specs::Endings::line_text))]
 fn refusal_message(refusal: Refusal) -> Message
     ensures { result ≡ refusal_text refusal }
@@ -150,7 +150,7 @@ fn refusal_message(refusal: Refusal) -> Message
     }
 }
 
-// The message of an ending, which an answer has none of.
+/// The message of an ending, which an answer has none of.
 pub fn ending_message(ending: Ending) -> Message
     ensures { result ≡ message_of ending }
 {

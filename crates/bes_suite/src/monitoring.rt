@@ -7,13 +7,13 @@ ghost use Rattle.bes_io.specs.Streams.{Puts};
 ghost use Rattle.monitor.specs.Verdicts.{verdict_of};
 ghost use Rattle.monitor.specs.Configuration.{IsReady};
 ghost use Rattle.bes_suite.specs.Endings.{IsBeforeInput};
-ghost use Rattle.bes_suite.specs.Monitoring.{MonitorAnswers, IsWatchable, AreWithin, IsWatched, verdict_line, ending_of as ending_of_verdict};
+ghost use Rattle.bes_suite.specs.Monitoring.{MonitorAnswers, IsFormulaWithinLimit, AreWithin, IsMonitored, verdict_line, ending_of as ending_of_verdict};
 ghost use Rattle.bes_suite.specs.Limits.{most_classes};
-ghost use Rattle.bes_suite.specs.Watching.{IsOpened, ending_after};
+ghost use Rattle.bes_suite.specs.OpenedMonitor.{IsOpened, ending_after};
 ghost use Rattle.translate.specs.Counting.{IfTooMany, IsFirstOver};
 ghost use Rattle.bes_suite.specs.Answers.{Contents};
 ghost use Rattle.bes_suite.specs.Streams.{Streams};
-ghost use Rattle.bes_suite.specs.Worlds.{world, needs_input, Performs};
+ghost use Rattle.bes_suite.specs.Worlds.{world, needs_input, NoOutputIsDue, Performs};
 
 use crate::endings::{Ending, Refusal};
 use crate::formulas::read_formula;
@@ -27,31 +27,31 @@ use monitor::{Monitor, Verdict};
 use std::alloc::Global;
 use translate::{TranslateFault, translate};
 
-// The most bytes of an input that is watched.
-const MOST_WATCHED: u64 = 1 << 40;
+/// The most bytes of an input that is monitored.
+const MOST_MONITORED: u64 = 1 << 40;
 
-// A monitor, with the store of its automaton.
+/// A monitor, with the store of its automaton.
 #[derive(Drop)]
-struct Watch {
+struct Opened {
     store: Store,
     monitor: Monitor,
 }
 
-// A monitor of the formula's traces. Nothing below takes memory once it is opened.
-fn open(alloc: Global, form: &Form, names: &Names) -> Result<Watch, TranslateFault>
+/// A monitor of the formula's traces. Nothing below takes memory once it is opened.
+fn open(alloc: Global, form: &Form, names: &Names) -> Result<Opened, TranslateFault>
     requires proper { IsProper (length names.now.names) (tree form.now) }
     requires small { nodes (tree form.now) < 2 ^ 32 }
-    ensures opened { IfOk result (λ watch. IsOpened watch.store watch.monitor names.now.names (tree form.now)) }
+    ensures opened { IfOk result (λ opened. IsOpened opened.store opened.monitor names.now.names (tree form.now)) }
     ensures within { OnOk result (AreWithin names.now.names (tree form.now)) }
     ensures fault { IfErr result (λ fault. IfTooMany fault (IsFirstOver (length names.now.names) (tree form.now) most_classes)) }
 {
     let mut store = Store::new(alloc, names.len())?;
     let made = translate(alloc, &mut store, form, MOST_CLASSES)?;
     let monitor = Monitor::new(alloc, &store, made.whole)?;
-    Ok(Watch { store, monitor })
+    Ok(Opened { store, monitor })
 }
 
-// Puts the line of the verdict.
+/// Puts the line of the verdict.
 fn put_verdict<O: Sink>(verdict: Verdict, out: &mut O) -> Result<(), Failed>
     ensures bytes { Puts (O.held out.old) (O.held out.new) result (verdict_line (verdict_of verdict)) }
     ensures cause { HasCause (O.faults out.old) (O.faults out.new) result }
@@ -64,7 +64,7 @@ fn put_verdict<O: Sink>(verdict: Verdict, out: &mut O) -> Result<(), Failed>
     }
 }
 
-// How a run ends with this last verdict.
+/// How a run ends with this last verdict.
 fn verdict_ending(verdict: Verdict) -> Ending
     ensures { result ≡ ending_of_verdict (verdict_of verdict) }
 {
@@ -74,7 +74,7 @@ fn verdict_ending(verdict: Verdict) -> Ending
     }
 }
 
-// How a run ends at the end of the input, by the last verdict.
+/// How a run ends at the end of the input, by the last verdict.
 fn last_ending(last: Option<Verdict>) -> Ending
     ensures { result ≡ ending_after last }
 {
@@ -84,8 +84,8 @@ fn last_ending(last: Option<Verdict>) -> Ending
     }
 }
 
-// Puts the verdict after each line of the input, before it looks at the next. It takes no memory.
-fn watch_input<S: Source, O: Sink>(
+/// Puts the verdict after each line of the input, before it looks at the next. It takes no memory.
+fn monitor_input<S: Source, O: Sink>(
     store: &Store,
     mut monitor: Monitor,
     names: &Names,
@@ -95,16 +95,18 @@ fn watch_input<S: Source, O: Sink>(
     requires ready { IsReady store.now monitor }
     requires props { store.now.props ≡ length names.now.names }
     ensures performs { (contents : Option Contents) (failed : List (List ℕ)) (f : Formula) → IsOpened store.now monitor names.now.names f →
-        Performs needs_input (λ files bytes. IsWatched names.now.names f bytes) (Unit {0})
+        Performs needs_input (λ files bytes. IsMonitored names.now.names f bytes) (Unit {0})
         (world contents failed (S.left input.old) (S.faults input.old) (O.held out.old) (O.faults out.old))
         (world contents failed (S.left input.new) (S.faults input.new) (O.held out.new) (O.faults out.new)) result }
     ensures streams { (contents : Option Contents) (failed : List (List ℕ)) (f : Formula) → IsOpened store.now monitor names.now.names f →
-        (rest : List ℕ) → S.left input.old ≡ Some rest → Streams (IsWatched names.now.names f) rest
+        (rest : List ℕ) → S.left input.old ≡ Some rest → Streams (IsMonitored names.now.names f) rest
         (world contents failed (S.left input.old) (S.faults input.old) (O.held out.old) (O.faults out.old))
         (world contents failed (S.left input.new) (S.faults input.new) (O.held out.new) (O.faults out.new)) }
+    ensures silent { (f : Formula) → IsOpened store.now monitor names.now.names f → (rest : List ℕ) → S.left input.old ≡ Some rest →
+        NoOutputIsDue (IsMonitored names.now.names f rest) → out.new ≡ out.old }
     ensures served { result ≢ Ending.NoMemory }
 {
-    let mut reader = LineReader::new(MOST_WATCHED);
+    let mut reader = LineReader::new(MOST_MONITORED);
     let mut line = 1;
     let mut last = None;
     loop {
@@ -123,7 +125,7 @@ fn watch_input<S: Source, O: Sink>(
     }
 }
 
-/// Watches the input by the formula: puts the verdict of the letters so far after each event.
+/// Monitors the input by the formula: puts the verdict of the letters so far after each event.
 pub fn monitor_formula<S: Source, O: Sink>(
     alloc: Global,
     dialect: Dialect,
@@ -132,25 +134,25 @@ pub fn monitor_formula<S: Source, O: Sink>(
     out: &mut O,
 ) -> Ending
     ensures performs { (contents : Option Contents) (failed : List (List ℕ)) →
-        Performs needs_input (λ files bytes. MonitorAnswers dialect text.now bytes) (IsWatchable dialect text.now)
+        Performs needs_input (λ files bytes. MonitorAnswers dialect text.now bytes) (IsFormulaWithinLimit dialect text.now)
         (world contents failed (S.left input.old) (S.faults input.old) (O.held out.old) (O.faults out.old))
         (world contents failed (S.left input.new) (S.faults input.new) (O.held out.new) (O.faults out.new)) result }
     ensures streams { (contents : Option Contents) (failed : List (List ℕ)) (rest : List ℕ) →
-        (IsWatchable dialect text.now → S.left input.old ≡ Some rest) → Streams (MonitorAnswers dialect text.now) rest
+        (IsFormulaWithinLimit dialect text.now → S.left input.old ≡ Some rest) → Streams (MonitorAnswers dialect text.now) rest
         (world contents failed (S.left input.old) (S.faults input.old) (O.held out.old) (O.faults out.old))
         (world contents failed (S.left input.new) (S.faults input.new) (O.held out.new) (O.faults out.new)) }
+    ensures silent { (rest : List ℕ) → (IsFormulaWithinLimit dialect text.now → S.left input.old ≡ Some rest) →
+        NoOutputIsDue (MonitorAnswers dialect text.now rest) → out.new ≡ out.old }
+    ensures nothing { result ≡ Ending.NoMemory → out.new ≡ out.old }
     ensures served { result ≡ Ending.NoMemory → input.new ≡ input.old }
-    ensures unread { ¬ IsWatchable dialect text.now → input.new ≡ input.old }
+    ensures unread { ¬ IsFormulaWithinLimit dialect text.now → input.new ≡ input.old }
 {
-    let Ok(mut names) = Names::new(alloc) else {
-        return Ending::NoMemory;
-    };
-    let form = match read_formula(alloc, dialect, text, &mut names) {
-        Ok(form) => form,
+    let (form, names) = match read_formula(alloc, dialect, text) {
+        Ok(read) => read,
         Err(ending) => return ending,
     };
     match open(alloc, &form, &names) {
-        Ok(Watch { store, monitor }) => watch_input(&store, monitor, &names, input, out),
+        Ok(Opened { store, monitor }) => monitor_input(&store, monitor, &names, input, out),
         Err(fault) => limit_ending(fault),
     }
 }

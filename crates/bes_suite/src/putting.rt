@@ -4,7 +4,7 @@ ghost use Rattle.bes_suite.specs.Worlds.{PutsAll};
 use crate::endings::Ending;
 use bes_io::Sink;
 
-// Puts a whole output, after which the run ends so.
+/// Puts a whole output, after which the run ends so.
 pub fn put_all<O: Sink>(text: &[u8], ending: Ending, out: &mut O) -> Ending
     ensures { PutsAll text.now ending (O.held out.old) (O.faults out.old) (O.held out.new) (O.faults out.new) result }
 {

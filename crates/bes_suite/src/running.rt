@@ -8,7 +8,7 @@ ghost use Rattle.bes_suite.specs.Results.{IsAnswered, Partial, HasFaultCause, Ha
 ghost use Rattle.bes_suite.specs.Answers.{AnswersWith, MayRead, Contents};
 ghost use Rattle.bes_suite.specs.Runs.{Finishes};
 ghost use Rattle.bes_suite.specs.Streams.{is_streaming, Streams};
-ghost use Rattle.bes_suite.specs.Worlds.{world, needs_of, Tells, Gains, IfNeeded, Performs};
+ghost use Rattle.bes_suite.specs.Worlds.{world, needs_of, Tells, Gains, IfNeeded, NoOutputIsDue, Performs};
 
 use crate::commands::{Command, find_command};
 use crate::endings::{Ending, Refusal, Status, finish};
@@ -19,7 +19,7 @@ use crate::translation::translate_formula;
 use bes_io::{Files, Sink, Source, Word};
 use std::alloc::Global;
 
-// Does what the words ask for, but for the message.
+/// Does what the words ask for, but for the message.
 fn perform<F: Files, S: Source, O: Sink>(
     alloc: Global,
     words: &[Word],
@@ -35,6 +35,11 @@ fn perform<F: Files, S: Source, O: Sink>(
         IfNeeded (is_streaming (command_of words.now)) (Streams (AnswersWith words.now contents) rest
         (world (F.contents files.old) (F.failed files.old) (S.left input.old) (S.faults input.old) (O.held out.old) (O.faults out.old))
         (world (F.contents files.new) (F.failed files.new) (S.left input.new) (S.faults input.new) (O.held out.new) (O.faults out.new))) }
+    ensures silent { (contents : Contents) (rest : List ℕ) →
+        Tells (needs_of words.now) (MayRead words.now) (world (F.contents files.old) (F.failed files.old) (S.left input.old) (S.faults input.old) (O.held out.old) (O.faults out.old)) contents rest →
+        NoOutputIsDue (AnswersWith words.now contents rest) → out.new ≡ out.old }
+    ensures nothing { result ≡ Ending.NoMemory → out.new ≡ out.old }
+    ensures unwritten { is_streaming (command_of words.now) ≡ false → S.faults input.old < S.faults input.new → out.new ≡ out.old }
     ensures served { IsTrue (is_streaming (command_of words.now)) → result ≡ Ending.NoMemory → input.new ≡ input.old }
     ensures usage { command_of words.now ≡ Command.Usage → result ≡ Ending.Refused Refusal.Usage }
     ensures unread { ¬ MayRead words.now → input.new ≡ input.old }
@@ -51,8 +56,8 @@ fn perform<F: Files, S: Source, O: Sink>(
     }
 }
 
-/// Does all that the program does: what the words ask for, over these files, this input, and these places for the output
-/// and for messages. It answers the status, and stops at the first fault of the outside.
+/// Does all that the program does: what the words ask for, over these files, this input, and these places for the
+/// output and for messages. It answers the status.
 pub fn run<F: Files, S: Source, O: Sink, E: Sink>(
     alloc: Global,
     words: &[Word],
@@ -69,11 +74,13 @@ pub fn run<F: Files, S: Source, O: Sink, E: Sink>(
         (world (F.contents files.old) (F.failed files.old) (S.left input.old) (S.faults input.old) (O.held out.old) (O.faults out.old))
         (world (F.contents files.new) (F.failed files.new) (S.left input.new) (S.faults input.new) (O.held out.new) (O.faults out.new))
         (E.held err.old) (E.held err.new) result.number }
-    ensures one { (contents : Contents) (rest : List ℕ) (c d : Reply) → AnswersWith words.now contents rest c → AnswersWith words.now contents rest d → c ≡ d }
+    ensures one { (contents : Contents) (rest : List ℕ) (c d : Reply) →
+        AnswersWith words.now contents rest c → AnswersWith words.now contents rest d → c ≡ d }
 
-    // What `translate` prints of a formula is the same for every formula with the same traces, and no automaton of these
-    // has fewer locations.
-    ensures only_automaton { (names : List (List ℕ)) (f : Formula) (text : List ℕ) (t : IsTranslation names f text) → IsOnlyAutomaton (length names) f t.automaton }
+    // The automaton that `translate` prints is the same for every formula over the same names in the same order with
+    // the same traces, and no automaton of these traces is smaller.
+    ensures only_automaton { (names : List (List ℕ)) (f : Formula) (text : List ℕ) (t : IsTranslation names f text) →
+        IsOnlyAutomaton (length names) f t.automaton }
 
     // Status 7 comes only where a count rose, and of the place for messages only where one was asked for.
     ensures fault { HasFaultCause (needs_of words.now) (MayRead words.now)
@@ -87,18 +94,25 @@ pub fn run<F: Files, S: Source, O: Sink, E: Sink>(
         (world (F.contents files.new) (F.failed files.new) (S.left input.new) (S.faults input.new) (O.held out.new) (O.faults out.new))
         (E.faults err.old) (E.faults err.new) result.number }
 
-    // After 7 the output has gained a prefix of what was asked for, after 8 nothing, whether or not the outside tells.
+    // After 7 the output has gained a prefix of what was asked for.
     ensures partly { (contents : Contents) (rest : List ℕ) →
         Tells (needs_of words.now) (MayRead words.now) (world (F.contents files.old) (F.failed files.old) (S.left input.old) (S.faults input.old) (O.held out.old) (O.faults out.old)) contents rest →
         Partial (AnswersWith words.now contents rest)
         (world (F.contents files.old) (F.failed files.old) (S.left input.old) (S.faults input.old) (O.held out.old) (O.faults out.old))
         (world (F.contents files.new) (F.failed files.new) (S.left input.new) (S.faults input.new) (O.held out.new) (O.faults out.new))
         result.number }
-    ensures nothing { result.number ≡ 8 → O.held out.new ≡ O.held out.old }
 
-    // Where the input fails, a command that writes as it reads has put what is due for the whole lines that were taken.
-    // Where the output fails, it failed at one line: what is due for the lines before the one that it needs was put, and
-    // fewer than 4,097 bytes were taken past that one. Once such a command reads, it takes no memory.
+    // Where no output is due, the output isn't asked. Whether or not the outside tells, it isn't asked before want of
+    // memory, nor, by a command that doesn't write as it reads, where the input failed.
+    ensures silent { (contents : Contents) (rest : List ℕ) →
+        Tells (needs_of words.now) (MayRead words.now) (world (F.contents files.old) (F.failed files.old) (S.left input.old) (S.faults input.old) (O.held out.old) (O.faults out.old)) contents rest →
+        NoOutputIsDue (AnswersWith words.now contents rest) → out.new ≡ out.old }
+    ensures nothing { result.number ≡ 8 → out.new ≡ out.old }
+    ensures unwritten { is_streaming (command_of words.now) ≡ false → S.faults input.old < S.faults input.new → out.new ≡ out.old }
+
+    // Where the input fails, a command that writes as it reads has put what is due for the whole lines that were
+    // taken. Where the output fails, it failed at one line: what is due for the lines before the one that it needs was
+    // put, and fewer than 4,097 bytes were taken past that one. Once such a command reads, it takes no memory.
     ensures streams { (contents : Contents) (rest : List ℕ) →
         Tells (needs_of words.now) (MayRead words.now) (world (F.contents files.old) (F.failed files.old) (S.left input.old) (S.faults input.old) (O.held out.old) (O.faults out.old)) contents rest →
         IfNeeded (is_streaming (command_of words.now)) (Streams (AnswersWith words.now contents) rest
@@ -117,22 +131,25 @@ pub fn run<F: Files, S: Source, O: Sink, E: Sink>(
     // The run ends in some way, whose status it answers and whose message it puts, whole but at a fault.
     ensures ends { (ending : Ending) × Finishes ending (E.held err.old) (E.faults err.old) (E.held err.new) (E.faults err.new) result.number }
 
-    // After 7 and 8 the message of the status was put, or at a fault a prefix of one message; after an answer none was.
+    // After 7 and 8 the message of the status was put, or at a fault a prefix of one message; after an answer none
+    // was.
     ensures message { LeavesMessage (E.held err.old) (E.held err.new) (E.faults err.old) (E.faults err.new) result.number }
     ensures quiet { result.number < 2 → err.new ≡ err.old }
 
     // Wrong words are told whatever memory there is.
     ensures usage { command_of words.now ≡ Command.Usage → (result.number ≡ 2) ⊎ (result.number ≡ 7) }
 
-    // The names that failed gain the named file at most, and the files stay where the words don't ask for one. The input
-    // stays where its formula or file isn't accepted, which is so after a refusal of the words, a formula or a limit.
+    // The names that failed gain the named file at most, and the files stay where the words don't ask for one. The
+    // input stays where its formula or file isn't accepted, which is so after a refusal of the words, a formula or a
+    // limit.
     ensures gains { Gains (file_of (command_of words.now) words.now) (F.failed files.old) (F.failed files.new) }
     ensures unopened { file_of (command_of words.now) words.now ≡ None → files.new ≡ files.old }
     ensures early { IsUnread result.number → ¬ MayRead words.now }
     ensures unread { ¬ MayRead words.now → input.new ≡ input.old }
 
     // After an answer an input that is read was read to its end.
-    ensures whole { IsTrue (reads_input (command_of words.now)) → result.number < 2 → (rest : List ℕ) → S.left input.old ≡ Some rest → S.left input.new ≡ Some [] }
+    ensures whole { IsTrue (reads_input (command_of words.now)) → result.number < 2 →
+        (rest : List ℕ) → S.left input.old ≡ Some rest → S.left input.new ≡ Some [] }
 {
     let ending = perform(alloc, words, files, input, out);
     finish(ending, err)

@@ -4,7 +4,7 @@ ghost use Rattle.forms.specs.Tree.{tree};
 ghost use Rattle.forms.specs.Proper.{IsProper};
 ghost use Rattle.bes_suite.specs.Showing.{FormsAnswers, shown};
 ghost use Rattle.bes_suite.specs.Answers.{Contents};
-ghost use Rattle.bes_suite.specs.Worlds.{world, needs_nothing, Performs};
+ghost use Rattle.bes_suite.specs.Worlds.{world, needs_nothing, NoOutputIsDue, Performs};
 
 use crate::endings::Ending;
 use crate::formulas::read_formula;
@@ -14,7 +14,7 @@ use form_reader::{Dialect, Names, print_form};
 use forms::{Form, nnf};
 use std::alloc::Global;
 
-// The two lines of a formula.
+/// The two lines of a formula.
 fn shown_text(alloc: Global, form: &Form, names: &Names) -> Result<Text, Memory>
     requires { IsProper (length names.now.names) (tree form.now) }
     ensures { IfOk result (λ text. text ≡ shown names.now.names (tree form.now)) }
@@ -37,12 +37,11 @@ pub fn show_formula<O: Sink>(alloc: Global, dialect: Dialect, text: &[u8], out: 
         Performs needs_nothing (λ files rest. FormsAnswers dialect text.now) ⊥
         (world contents failed left reads (O.held out.old) (O.faults out.old))
         (world contents failed left reads (O.held out.new) (O.faults out.new)) result }
+    ensures silent { NoOutputIsDue (FormsAnswers dialect text.now) → out.new ≡ out.old }
+    ensures nothing { result ≡ Ending.NoMemory → out.new ≡ out.old }
 {
-    let Ok(mut names) = Names::new(alloc) else {
-        return Ending::NoMemory;
-    };
-    let form = match read_formula(alloc, dialect, text, &mut names) {
-        Ok(form) => form,
+    let (form, names) = match read_formula(alloc, dialect, text) {
+        Ok(read) => read,
         Err(ending) => return ending,
     };
     match shown_text(alloc, &form, &names) {

@@ -10,10 +10,10 @@ use form_reader::Names;
 use spec_reader::{Mode, read_event};
 use std::alloc::Global;
 
-// The most bytes of an input that is judged.
+/// The most bytes of an input that is judged.
 const MOST_INPUT: u64 = 1 << 26;
 
-// How a run ends where reading lines fails.
+/// How a run ends where reading lines fails.
 fn stop(fault: LineFault, line: u64) -> Ending
     ensures ending { result ≡ stopped line fault }
     ensures late { ¬ IsBeforeInput result }
@@ -26,7 +26,7 @@ fn stop(fault: LineFault, line: u64) -> Ending
     }
 }
 
-// The letter of the next line, which has this number; none at the end of the input.
+/// The letter of the next line, which has this number; none at the end of the input.
 pub fn next_letter<S: Source>(
     reader: &mut LineReader,
     names: &Names,
@@ -51,7 +51,7 @@ pub fn next_letter<S: Source>(
     }
 }
 
-// The letters of the input's lines.
+/// The letters of the input's lines.
 pub fn read_trace<S: Source>(alloc: Global, names: &Names, input: &mut S) -> Result<Letters, Ending>
     ensures trace { (rest : List ℕ) → S.left input.old ≡ Some rest
         → GivesTrace names.now.names rest result (S.left input.new) }

@@ -6,7 +6,7 @@ ghost use Rattle.translate.specs.Counting.{IfTooMany, IsFirstOver};
 ghost use Rattle.bes_suite.specs.Limits.{most_classes};
 ghost use Rattle.bes_suite.specs.Translation.{TranslateAnswers, IsTranslation};
 ghost use Rattle.bes_suite.specs.Answers.{Contents};
-ghost use Rattle.bes_suite.specs.Worlds.{world, needs_nothing, Performs};
+ghost use Rattle.bes_suite.specs.Worlds.{world, needs_nothing, NoOutputIsDue, Performs};
 
 use crate::automaton_text::whole_text;
 use crate::endings::Ending;
@@ -22,11 +22,12 @@ use forms::Form;
 use std::alloc::Global;
 use translate::{TranslateFault, translate};
 
-// The text of the formula's automaton.
+/// The text of the formula's automaton.
 fn translation_text(alloc: Global, form: &Form, names: &Names) -> Result<Text, TranslateFault>
     requires proper { IsProper (length names.now.names) (tree form.now) }
     requires small { nodes (tree form.now) < 2 ^ 32 }
-    ensures { MatchResult result (λ text. IsTranslation names.now.names (tree form.now) text) (λ fault. IfTooMany fault (IsFirstOver (length names.now.names) (tree form.now) most_classes)) }
+    ensures { MatchResult result (λ text. IsTranslation names.now.names (tree form.now) text)
+        (λ fault. IfTooMany fault (IsFirstOver (length names.now.names) (tree form.now) most_classes)) }
 {
     let mut store = Store::new(alloc, names.len())?;
     let made = translate(alloc, &mut store, form, MOST_CLASSES)?;
@@ -55,12 +56,11 @@ pub fn translate_formula<O: Sink>(
         Performs needs_nothing (λ files rest. TranslateAnswers dialect text.now) ⊥
         (world contents failed left reads (O.held out.old) (O.faults out.old))
         (world contents failed left reads (O.held out.new) (O.faults out.new)) result }
+    ensures silent { NoOutputIsDue (TranslateAnswers dialect text.now) → out.new ≡ out.old }
+    ensures nothing { result ≡ Ending.NoMemory → out.new ≡ out.old }
 {
-    let Ok(mut names) = Names::new(alloc) else {
-        return Ending::NoMemory;
-    };
-    let form = match read_formula(alloc, dialect, text, &mut names) {
-        Ok(form) => form,
+    let (form, names) = match read_formula(alloc, dialect, text) {
+        Ok(read) => read,
         Err(ending) => return ending,
     };
     match translation_text(alloc, &form, &names) {

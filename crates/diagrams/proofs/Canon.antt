@@ -2,15 +2,15 @@
 use Rattle.std.proofs.Common.{◌≡◌, ℕ, zero, suc, ◌<◌, ◌≤◌, ◌+◌, Bool, true, false, cond, if◌then◌else◌, ◌≢◌, refl, sym, ◌∙◌, ap, arith, ◌⊎◌, inl, inr, eqb, eq-eqb}
 use Rattle.std.proofs.lemmas.Bool.{cases_order, cases_eq}
 use Rattle.std.proofs.lemmas.Bool.Decides.{nat_tests}
-use Rattle.diagrams.specs.Tree.{Tree, Leaf, Branch, Assignment, put, value_at, IsAbove, IsReduced, AllVars}
+use Rattle.diagrams.specs.Tree.{Tree, Constant, Branch, Assignment, put, value_at, IsAbove, IsReduced, AllVars}
 
 pub above-trans : (v w : ℕ) (t : Tree) → v < w → IsAbove w t → IsAbove v t
-above-trans v w (Leaf t) h k = tt
+above-trans v w (Constant t) h k = tt
 above-trans v w (Branch x lo hi) h k = omega arith
 
 -- a reduced tree above v reads the variables above v alone
 pub value_at-agree : (v : ℕ) (t : Tree) (a b : Assignment) → IsAbove v t → IsReduced t → ((w : ℕ) → v < w → a w ≡ b w) → value_at t a ≡ value_at t b
-value_at-agree v (Leaf t) a b h r same = refl
+value_at-agree v (Constant t) a b h r same = refl
 value_at-agree v (Branch w lo hi) a b h r same =
     rw (
       same w h,
@@ -37,7 +37,7 @@ pub high : (v : ℕ) (lo hi : Tree) (a : Assignment) → IsReduced (Branch v lo 
 high v lo hi a r = rw (put-same a v true) (value_at-put v hi a true r.1 r.4)
 
 abbrev pub tree_size : Tree → ℕ
-tree_size (Leaf t) = 0
+tree_size (Constant t) = 0
 tree_size (Branch v lo hi) = suc (tree_size lo + tree_size hi)
 
 -- a branch and a reduced tree above its variable differ
@@ -50,13 +50,13 @@ apart v lo hi t r above rt same_tree same =
     ∙ sym (same_tree hi r.4 (omega arith) (λ a. sym (high v lo hi a r) ∙ same (put a v true) ∙ value_at-put v t a true above rt)))
 
 canonical_within : (n : ℕ) (s t : Tree) → tree_size s + tree_size t ≤ n → IsReduced s → IsReduced t → ((a : Assignment) → value_at s a ≡ value_at t a) → s ≡ t
-canonical_within n (Leaf x) (Leaf y) e rs rt same = ap Leaf (same (λ _. true))
-canonical_within zero (Leaf x) (Branch v l h) e rs rt same = absurd (omega arith)
+canonical_within n (Constant x) (Constant y) e rs rt same = ap Constant (same (λ _. true))
+canonical_within zero (Constant x) (Branch v l h) e rs rt same = absurd (omega arith)
 canonical_within zero (Branch v l h) t e rs rt same = absurd (omega arith)
-canonical_within (suc n) (Leaf x) (Branch v l h) e rs rt same =
-    absurd (apart v l h (Leaf x) rt tt tt (λ y r k q. canonical_within n y (Leaf x) (omega arith) r tt q) (λ a. sym (same a)))
-canonical_within (suc n) (Branch v l h) (Leaf x) e rs rt same =
-    absurd (apart v l h (Leaf x) rs tt tt (λ y r k q. canonical_within n y (Leaf x) (omega arith) r tt q) same)
+canonical_within (suc n) (Constant x) (Branch v l h) e rs rt same =
+    absurd (apart v l h (Constant x) rt tt tt (λ y r k q. canonical_within n y (Constant x) (omega arith) r tt q) (λ a. sym (same a)))
+canonical_within (suc n) (Branch v l h) (Constant x) e rs rt same =
+    absurd (apart v l h (Constant x) rs tt tt (λ y r k q. canonical_within n y (Constant x) (omega arith) r tt q) same)
 canonical_within (suc n) (Branch v l h) (Branch w m g) e rs rt same =
     elim (cases_order v w) [
       | inl p ↦
@@ -83,7 +83,7 @@ overlap v w l h k r d =
 
 pub above_from_depends : (v : ℕ) (t : Tree) → IsReduced t
     → ((a b : Assignment) → ((w : ℕ) → v < w → a w ≡ b w) → value_at t a ≡ value_at t b) → IsAbove v t
-above_from_depends v (Leaf x) r d = tt
+above_from_depends v (Constant x) r d = tt
 above_from_depends v (Branch w l h) r d =
     elim (cases_order v w) [
       | inl p ↦ absurd (overlap v w l h (omega arith) r d)
@@ -124,7 +124,7 @@ depends-own P v lo hi r d n =
 -- a reduced tree whose value depends on variables in P alone has no other variable
 pub all_vars_from_depends : (P : ℕ → Type 0) → ((v : ℕ) → (P v → ⊥) ⊎ P v) → (t : Tree) → IsReduced t
     → ((a b : Assignment) → ((w : ℕ) → P w → a w ≡ b w) → value_at t a ≡ value_at t b) → AllVars P t
-all_vars_from_depends P cases (Leaf x) r d = tt
+all_vars_from_depends P cases (Constant x) r d = tt
 all_vars_from_depends P cases (Branch v lo hi) r d =
     elim (cases v) [
       | inl n ↦ absurd (depends-own P v lo hi r d n)

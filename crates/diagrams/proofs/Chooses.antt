@@ -1,27 +1,27 @@
 -- The step of a choice between two diagrams.
-use Rattle.std.proofs.Common.{◌≡◌, ℕ, ◌<◌, ◌≤◌, ◌+◌, Bool, true, false, if◌then◌else◌, refl, sym, ◌∙◌, ap, arith, ◌⊎◌, inl, inr, Option, Some, min}
+use Rattle.std.proofs.Common.{◌≡◌, ℕ, ◌<◌, ◌+◌, Bool, true, false, if◌then◌else◌, refl, sym, ◌∙◌, ap, arith, ◌⊎◌, inl, inr, Some, min}
 use Rattle.std.specs.Prelude.{◌==◌}
 use Rattle.std.proofs.lemmas.Bool.{cases_lt}
 use Rattle.diagrams.specs.declared.top.Id.{Id}
 use Rattle.diagrams.specs.declared.top.Look.{Look}
-use Rattle.diagrams.specs.declared.top.Look.TheVariants.{Terminal, Node}
+use Rattle.diagrams.specs.declared.top.Look.TheVariants.{Node}
 use Rattle.diagrams.specs.declared.work.Work.TheVariants.{Ite}
-use Rattle.diagrams.specs.Tree.{Assignment, put}
+use Rattle.diagrams.specs.Tree.{put}
 use Rattle.diagrams.specs.Eval.{Diagrams, top_of, tree, eval, limit}
-use Rattle.diagrams.specs.Live.{IsLive, IsTruth, StandsAbove, IsCanonical, Keeps, Means}
+use Rattle.diagrams.specs.Live.{IsLive, IsTruth, StandsAbove, IsCanonical, Keeps}
 use Rattle.diagrams.specs.Branch.{IsBranch}
 use Rattle.diagrams.specs.Work.{Gives}
-use Rattle.diagrams.specs.Parts.{low_of, high_of, var_of, ChoosesYes, ChoosesNo, ChoosesTest}
+use Rattle.diagrams.specs.Cofactors.{low_of, high_of, var_of, ChoosesYes, ChoosesNo, ChoosesTest}
 use Rattle.diagrams.proofs.Canon.{tree_size}
 use Rattle.diagrams.proofs.Meaning.{eval-lasts, tree-lasts, live-above}
-use Rattle.diagrams.proofs.Parts.{IsParts, parts, parts_smaller, low-value, high-value}
+use Rattle.diagrams.proofs.CofactorLemmas.{AreCofactors, are_cofactors, cofactors_smaller, low-value, high-value}
 use Rattle.diagrams.proofs.Combines.{var_after, may_be}
 
--- all that a step knows of the parts of the three diagrams
+-- all that a step knows of the cofactors of the three diagrams
 pub record IsChoiceStep (s : Diagrams) (v : ℕ) (t y n tl th yl yh nl nh : Id) : Type 0 where
-  pub test : IsParts s v t tl th
-  pub on : IsParts s v y yl yh
-  pub off : IsParts s v n nl nh
+  pub test : AreCofactors s v t tl th
+  pub on : AreCofactors s v y yl yh
+  pub off : AreCofactors s v n nl nh
   pub lo_less : tree_size (tree s tl) + tree_size (tree s yl) + tree_size (tree s nl) < tree_size (tree s t) + tree_size (tree s y) + tree_size (tree s n)
   pub hi_less : tree_size (tree s th) + tree_size (tree s yh) + tree_size (tree s nh) < tree_size (tree s t) + tree_size (tree s y) + tree_size (tree s n)
   pub before : (w : ℕ) → StandsAbove s w t → StandsAbove s w y → StandsAbove s w n → w < v
@@ -37,13 +37,13 @@ pub choice_step : (s : Diagrams) → IsCanonical s → (t y n tl0 th0 : Id) (own
     → own < limit → (v : ℕ) → v ≡ min (min own (var_of yt)) (var_of nt)
     → IsChoiceStep s v t y n (low_of t (Node own tl0 th0) v) (high_of t (Node own tl0 th0) v) (low_of y yt v) (high_of y yt v) (low_of n nt v) (high_of n nt v)
 choice_step s c t y n tl0 th0 own yt nt et ey en small v e =
-    let p = parts s c t (Node own tl0 th0) et v (omega arith) in
-    let q = parts s c y yt ey v (omega arith) in
-    let r = parts s c n nt en v (omega arith) in
+    let p = are_cofactors s c t (Node own tl0 th0) et v (omega arith) in
+    let q = are_cofactors s c y yt ey v (omega arith) in
+    let r = are_cofactors s c n nt en v (omega arith) in
     let less : v < limit = omega arith in
     elim (least_cases own (var_of yt) (var_of nt)) [
       | inl h ↦
-          let z = parts_smaller s c t (Node own tl0 th0) et v less (e ∙ h) in
+          let z = cofactors_smaller s c t (Node own tl0 th0) et v less (e ∙ h) in
           record {
             test = p;
             on = q;
@@ -53,7 +53,7 @@ choice_step s c t y n tl0 th0 own yt nt et ey en small v e =
             before = λ w ht hy hn. var_after s w t (Node own tl0 th0) et ht v less (e ∙ h);
           }
       | inr (inl h) ↦
-          let z = parts_smaller s c y yt ey v less (e ∙ h) in
+          let z = cofactors_smaller s c y yt ey v less (e ∙ h) in
           record {
             test = p;
             on = q;
@@ -63,7 +63,7 @@ choice_step s c t y n tl0 th0 own yt nt et ey en small v e =
             before = λ w ht hy hn. var_after s w y yt ey hy v less (e ∙ h);
           }
       | inr (inr h) ↦
-          let z = parts_smaller s c n nt en v less (e ∙ h) in
+          let z = cofactors_smaller s c n nt en v less (e ∙ h) in
           record {
             test = p;
             on = q;
@@ -74,7 +74,7 @@ choice_step s c t y n tl0 th0 own yt nt et ey en small v e =
           }
     ]
 
--- the step, by the parts and the variable that the code found
+-- the step, by the cofactors and the variable that the code found
 pub choice_step_at : (s : Diagrams) → IsCanonical s → (t y n tl0 th0 : Id) (own : ℕ) (yt nt : Look) → top_of s t ≡ Some (Node own tl0 th0) → top_of s y ≡ Some yt → top_of s n ≡ Some nt
     → (u v : ℕ) → u ≡ min own (var_of yt) → v ≡ min u (var_of nt)
     → (p q r : Id × Id) → p.0 ≡ low_of t (Node own tl0 th0) v → p.1 ≡ high_of t (Node own tl0 th0) v
@@ -85,13 +85,13 @@ choice_step_at s c t y n tl0 th0 own yt nt et ey en u v d e p q r a b f g h i =
     (choice_step s c t y n tl0 th0 own yt nt et ey en ((c.nodes t own tl0 th0 et).small) v (e ∙ ap (λ x. min x (var_of nt)) d))
 
 -- a part of a diagram of terminals 0 and 1 is one
-pub truth_low : (s : Diagrams) → IsCanonical s → (v : ℕ) (f fl fh : Id) → IsTruth s f → IsParts s v f fl fh → IsTruth s fl
+pub truth_low : (s : Diagrams) → IsCanonical s → (v : ℕ) (f fl fh : Id) → IsTruth s f → AreCofactors s v f fl fh → IsTruth s fl
 truth_low s c v f fl fh t p = record {
   live = live-above v _ p.lo_above;
   truth = λ a. let h = t.truth (put a v false) in rw (low-value s c v f fl fh p a) at h;
 }
 
-pub truth_high : (s : Diagrams) → IsCanonical s → (v : ℕ) (f fl fh : Id) → IsTruth s f → IsParts s v f fl fh → IsTruth s fh
+pub truth_high : (s : Diagrams) → IsCanonical s → (v : ℕ) (f fl fh : Id) → IsTruth s f → AreCofactors s v f fl fh → IsTruth s fh
 truth_high s c v f fl fh t p = record {
   live = live-above v _ p.hi_above;
   truth = λ a. let h = t.truth (put a v true) in rw (high-value s c v f fl fh p a) at h;

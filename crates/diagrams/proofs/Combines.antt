@@ -1,5 +1,5 @@
 -- The step of an operation on two diagrams.
-use Rattle.std.proofs.Common.{◌≡◌, ℕ, zero, suc, ◌<◌, ◌≤◌, ◌+◌, Bool, true, false, cond, if◌then◌else◌, ◌≢◌, refl, sym, ◌∙◌, ap, arith, ◌⊎◌, inl, inr, IsSome, Option, Some, None, eqb, Result, IfOk}
+use Rattle.std.proofs.Common.{◌≡◌, ℕ, ◌<◌, ◌+◌, Bool, true, false, if◌then◌else◌, refl, sym, ◌∙◌, ap, arith, inl, inr, Some, Result, IfOk}
 use Rattle.std.proofs.lemmas.Result.{IfOk-weaker}
 use Rattle.diagrams.specs.declared.top.Id.{Id}
 use Rattle.diagrams.specs.declared.top.Look.{Look}
@@ -9,22 +9,22 @@ use Rattle.diagrams.specs.declared.work.Work.TheVariants.{Combine}
 use Rattle.diagrams.specs.Tree.{Assignment}
 use Rattle.diagrams.specs.Branch.{IsBranch}
 use Rattle.diagrams.specs.Eval.{Diagrams, top_of, tree, eval, limit}
-use Rattle.diagrams.specs.Live.{IsLive, IsTopAbove, StandsAbove, IsCanonical, Extends, Keeps, Means}
+use Rattle.diagrams.specs.Live.{IsLive, StandsAbove, IsCanonical, Keeps}
 use Rattle.diagrams.specs.Work.{applied, CanApply, CanCombine, Gives}
-use Rattle.diagrams.specs.Parts.{low_of, high_of, var_of, IsLeast, MayBe, GivesFirst, GivesSecond, GivesOne}
+use Rattle.diagrams.specs.Cofactors.{low_of, high_of, var_of, IsLeastVariable, MayBe, GivesFirst, GivesSecond, GivesOne}
 use Rattle.diagrams.specs.Tree.{put}
 use Rattle.diagrams.proofs.Canon.{tree_size}
 use Rattle.diagrams.proofs.Meaning.{eval-lasts, tree-lasts, eval-terminal, live-above}
-use Rattle.diagrams.proofs.Parts.{IsParts, IsSmaller, parts, parts_smaller, low-value, high-value}
+use Rattle.diagrams.proofs.CofactorLemmas.{AreCofactors, are_cofactors, cofactors_smaller, low-value, high-value}
 
 pub can_low : (s : Diagrams) → IsCanonical s → (op : Op) (v : ℕ) (f g fl fh gl gh : Id) → CanCombine s op f g
-    → IsParts s v f fl fh → IsParts s v g gl gh → CanCombine s op fl gl
+    → AreCofactors s v f fl fh → AreCofactors s v g gl gh → CanCombine s op fl gl
 can_low s c op v f g fl fh gl gh can p q a =
     let h : CanApply op (eval s f (put a v false)) (eval s g (put a v false)) = can (put a v false) in
     rw (low-value s c v f fl fh p a, low-value s c v g gl gh q a) at h
 
 pub can_high : (s : Diagrams) → IsCanonical s → (op : Op) (v : ℕ) (f g fl fh gl gh : Id) → CanCombine s op f g
-    → IsParts s v f fl fh → IsParts s v g gl gh → CanCombine s op fh gh
+    → AreCofactors s v f fl fh → AreCofactors s v g gl gh → CanCombine s op fh gh
 can_high s c op v f g fl fh gl gh can p q a =
     let h : CanApply op (eval s f (put a v true)) (eval s g (put a v true)) = can (put a v true) in
     rw (high-value s c v f fl fh p a, high-value s c v g gl gh q a) at h
@@ -33,10 +33,10 @@ pub can_later : (s n : Diagrams) → Keeps s n → (op : Op) (f g : Id) → IsLi
 can_later s n k op f g hf hg can a =
     rw (eval-lasts s n k.was k.now k.extends f hf a, eval-lasts s n k.was k.now k.extends g hg a) (can a)
 
--- all that a step knows of the parts
+-- all that a step knows of the cofactors
 pub record IsStep (s : Diagrams) (v : ℕ) (f g fl fh gl gh : Id) : Type 0 where
-  pub first : IsParts s v f fl fh
-  pub second : IsParts s v g gl gh
+  pub first : AreCofactors s v f fl fh
+  pub second : AreCofactors s v g gl gh
   pub lo_less : tree_size (tree s fl) + tree_size (tree s gl) < tree_size (tree s f) + tree_size (tree s g)
   pub hi_less : tree_size (tree s fh) + tree_size (tree s gh) < tree_size (tree s f) + tree_size (tree s g)
   pub before : (w : ℕ) → StandsAbove s w f → StandsAbove s w g → w < v
@@ -45,14 +45,14 @@ pub var_after : (s : Diagrams) (w : ℕ) (i : Id) (top : Look) → top_of s i �
 var_after s w i (Terminal t) e h v k q = absurd (omega arith)
 var_after s w i (Node x lo hi) e h v k q = let d : w < x = rw e at h in omega arith
 
-pub step : (s : Diagrams) → IsCanonical s → (f g : Id) (ft gt : Look) → top_of s f ≡ Some ft → top_of s g ≡ Some gt → (v : ℕ) → IsLeast ft gt v
+pub step : (s : Diagrams) → IsCanonical s → (f g : Id) (ft gt : Look) → top_of s f ≡ Some ft → top_of s g ≡ Some gt → (v : ℕ) → IsLeastVariable ft gt v
     → IsStep s v f g (low_of f ft v) (high_of f ft v) (low_of g gt v) (high_of g gt v)
 step s c f g ft gt ef eg v l =
-    let p = parts s c f ft ef v l.first in
-    let q = parts s c g gt eg v l.second in
+    let p = are_cofactors s c f ft ef v l.first in
+    let q = are_cofactors s c g gt eg v l.second in
     elim l.one [
       | inl e ↦
-          let z = parts_smaller s c f ft ef v l.small e in
+          let z = cofactors_smaller s c f ft ef v l.small e in
           record {
             first = p;
             second = q;
@@ -61,7 +61,7 @@ step s c f g ft gt ef eg v l =
             before = λ w hf hg. var_after s w f ft ef hf v l.small e;
           }
       | inr e ↦
-          let z = parts_smaller s c g gt eg v l.small e in
+          let z = cofactors_smaller s c g gt eg v l.small e in
           record {
             first = p;
             second = q;
@@ -119,13 +119,13 @@ can_apply s op f g x y ef eg can =
     let h : CanApply op (eval s f a) (eval s g a) = can a in
     rw (eval-terminal s f x ef a, eval-terminal s g y eg a) at h
 
--- the parts are smaller in a grown store too
+-- the cofactors are smaller in a grown store too
 pub later_less : (s n : Diagrams) → Keeps s n → (f g : Id) (m : ℕ) → IsLive s f → IsLive s g
     → tree_size (tree s f) + tree_size (tree s g) < m → tree_size (tree n f) + tree_size (tree n g) < m
 later_less s n k f g m hf hg h =
     rw (tree-lasts s n k.was k.now k.extends f hf, tree-lasts s n k.was k.now k.extends g hg) h
 
-pub step_at : (s : Diagrams) → IsCanonical s → (f g : Id) (ft gt : Look) → top_of s f ≡ Some ft → top_of s g ≡ Some gt → (v : ℕ) → IsLeast ft gt v
+pub step_at : (s : Diagrams) → IsCanonical s → (f g : Id) (ft gt : Look) → top_of s f ≡ Some ft → top_of s g ≡ Some gt → (v : ℕ) → IsLeastVariable ft gt v
     → (p q : Id × Id) → p.0 ≡ low_of f ft v → p.1 ≡ high_of f ft v → q.0 ≡ low_of g gt v → q.1 ≡ high_of g gt v
     → IsStep s v f g p.0 p.1 q.0 q.1
 step_at s c f g ft gt ef eg v l p q a b d e = rw (a, b, d, e) (step s c f g ft gt ef eg v l)

@@ -1,33 +1,34 @@
 -- The step of a replacement of obligations.
-use Rattle.std.proofs.Common.{◌≡◌, ℕ, ◌<◌, ◌≤◌, ◌+◌, ◌-◌, arith, Bool, true, false, if◌then◌else◌, refl, sym, ◌∙◌, ap, inl, inr, ◌⊎◌, Option, Some, None, List, length}
+use Rattle.std.proofs.Common.{◌≡◌, ℕ, ◌<◌, ◌≤◌, ◌+◌, ◌-◌, arith, true, false, if◌then◌else◌, refl, sym, ◌∙◌, ap, inl, inr, ◌⊎◌, Some, List, length}
 use Rattle.std.specs.Prelude.{nat_lt, ◌==◌}
+use Rattle.std.proofs.lemmas.Bool.{cases_Bool}
 use Rattle.std.proofs.lemmas.Bool.Decides.{nat_tests}
 use Rattle.diagrams.specs.declared.top.Id.{Id}
-use Rattle.diagrams.specs.declared.top.Look.TheVariants.{Terminal, Node}
+use Rattle.diagrams.specs.declared.top.Look.TheVariants.{Node}
 use Rattle.diagrams.specs.declared.memo.Memo.{Memo}
 use Rattle.diagrams.specs.declared.compose.ComposeMemo.{ComposeMemo}
 use Rattle.diagrams.specs.declared.work.Work.TheVariants.{Ite}
 use Rattle.diagrams.specs.Tree.{Assignment, put}
-use Rattle.diagrams.specs.Eval.{Diagrams, top_of, tree, eval, DependsOn}
-use Rattle.diagrams.specs.Live.{IsLive, IsTruth, IsCanonical, Keeps, Means}
+use Rattle.diagrams.specs.Eval.{Diagrams, top_of, tree, eval, DependsOn, id_at}
+use Rattle.diagrams.specs.Live.{IsLive, IsCanonical, Keeps}
 use Rattle.diagrams.specs.Kept.{AllKept}
 use Rattle.diagrams.specs.Work.{Gives}
-use Rattle.diagrams.specs.Turned.{same_id}
-use Rattle.diagrams.specs.Composed.{IsObligation, item_of, AllTruths, IsOver, replaced, Composes, IsComposed, IsRightFor}
+use Rattle.diagrams.specs.Transformed.{same_id}
+use Rattle.diagrams.specs.Composed.{IsObligation, AllTruths, IsOverObligations, replaced, Composes, IsComposed, IsRightFor}
 use Rattle.diagrams.proofs.Canon.{tree_size, put-alike, put-other}
-use Rattle.diagrams.proofs.Meaning.{live_lasts, eval-lasts, eval-node, eval-terminal, live-above, same_id_by_value, truth_lasts, means_lasts}
+use Rattle.diagrams.proofs.Meaning.{live_lasts, eval-lasts, eval-node, live-above, same_id_by_value, truth_lasts, means_lasts}
+use Rattle.diagrams.proofs.DependsLemmas.{DependsOn-lasts}
 use Rattle.diagrams.proofs.Kept.{kept_weaker}
-use Rattle.diagrams.proofs.Parts.{own, low-value, high-value, IsParts}
-use Rattle.diagrams.proofs.Table.{bool_cases}
+use Rattle.diagrams.proofs.CofactorLemmas.{own, low-value, high-value, AreCofactors}
 use Rattle.diagrams.proofs.Works.{works_last}
-use Rattle.diagrams.proofs.Turned.{down, IsDown}
+use Rattle.diagrams.proofs.Transformed.{down}
 
--- the parts of a diagram depend on no further variables
-pub lo_over : (s : Diagrams) → IsCanonical s → (P : ℕ → Type 0) (v : ℕ) (f lo hi : Id) → IsParts s v f lo hi → DependsOn s f P → DependsOn s lo P
+-- the cofactors of a diagram depend on no further variables
+pub lo_over : (s : Diagrams) → IsCanonical s → (P : ℕ → Type 0) (v : ℕ) (f lo hi : Id) → AreCofactors s v f lo hi → DependsOn s f P → DependsOn s lo P
 lo_over s c P v f lo hi p d a b same =
     sym (low-value s c v f lo hi p a) ∙ d (put a v false) (put b v false) (λ w h. put-alike a b v false w (same w h)) ∙ low-value s c v f lo hi p b
 
-pub hi_over : (s : Diagrams) → IsCanonical s → (P : ℕ → Type 0) (v : ℕ) (f lo hi : Id) → IsParts s v f lo hi → DependsOn s f P → DependsOn s hi P
+pub hi_over : (s : Diagrams) → IsCanonical s → (P : ℕ → Type 0) (v : ℕ) (f lo hi : Id) → AreCofactors s v f lo hi → DependsOn s f P → DependsOn s hi P
 hi_over s c P v f lo hi p d a b same =
     sym (high-value s c v f lo hi p a) ∙ d (put a v true) (put b v true) (λ w h. put-alike a b v true w (same w h)) ∙ high-value s c v f lo hi p b
 
@@ -41,15 +42,15 @@ top_over s c P v f lo hi e d n =
 
 obligation_cases : (p count v : ℕ) → (IsObligation p count v → ⊥) ⊎ IsObligation p count v
 obligation_cases p count v =
-    elim (bool_cases (nat_lt v p)) [
+    elim (cases_Bool (nat_lt v p)) [
       | inl t ↦ inl (λ h. let l : v < p = grind (arith, nat_tests) in let k = h.0 in omega arith)
-      | inr t ↦ elim (bool_cases (nat_lt v (p + count))) [
+      | inr t ↦ elim (cases_Bool (nat_lt v (p + count))) [
         | inl u ↦ inr (grind (arith, nat_tests), grind (arith, nat_tests))
         | inr u ↦ inl (λ h. let l : p + count ≤ v = grind (arith, nat_tests) in let k = h.1 in omega arith)
       ]
     ]
 
-pub top_obligation : (s : Diagrams) → IsCanonical s → (count v : ℕ) (f lo hi : Id) → top_of s f ≡ Some (Node v lo hi) → IsOver s count f → IsObligation s.props count v
+pub top_obligation : (s : Diagrams) → IsCanonical s → (count v : ℕ) (f lo hi : Id) → top_of s f ≡ Some (Node v lo hi) → IsOverObligations s count f → IsObligation s.props count v
 top_obligation s c count v f lo hi e d =
     elim (obligation_cases s.props count v) [
       | inl n ↦ absurd (top_over s c (IsObligation s.props count) v f lo hi e d n)
@@ -57,30 +58,27 @@ top_obligation s c count v f lo hi e d =
     ]
 
 pub truths_last : (s n : Diagrams) → Keeps s n → (ids : List Id) → AllTruths s ids → AllTruths n ids
-truths_last s n k ids t j h = truth_lasts s n k (item_of ids j) (t j h)
+truths_last s n k ids t j h = truth_lasts s n k (id_at ids j) (t j h)
 
 -- replaced obligations as the store grows
 replaced-lasts : (s n : Diagrams) → Keeps s n → (ids : List Id) → AllTruths s ids → (a : Assignment) (v : ℕ) → IsObligation s.props (length ids) v → replaced n ids a v ≡ replaced s ids a v
 replaced-lasts s n k ids t a v h =
     let b : v - s.props < length ids = let p = h.0 in let q = h.1 in omega arith in
-    let i = item_of ids (v - s.props) in
+    let i = id_at ids (v - s.props) in
     let e : eval n i a ≡ eval s i a = eval-lasts s n k.was k.now k.extends i (t (v - s.props) b).live a in
-    ap (λ p. eval n (item_of ids (v - p)) a == 1) k.extends.props ∙ ap (λ x. x == 1) e
+    ap (λ p. eval n (id_at ids (v - p)) a == 1) k.extends.props ∙ ap (λ x. x == 1) e
 
 -- what a diagram composes to is the same by the grown store
-pub composes-value : (s n : Diagrams) → Keeps s n → (ids : List Id) → AllTruths s ids → (f : Id) → IsLive s f → IsOver s (length ids) f → (a : Assignment)
+pub composes-value : (s n : Diagrams) → Keeps s n → (ids : List Id) → AllTruths s ids → (f : Id) → IsLive s f → IsOverObligations s (length ids) f → (a : Assignment)
     → eval n f (replaced n ids a) ≡ eval s f (replaced s ids a)
 composes-value s n k ids t f l o a =
     eval-lasts s n k.was k.now k.extends f l (replaced n ids a) ∙ o (replaced n ids a) (replaced s ids a) (λ v h. replaced-lasts s n k ids t a v h)
 
-pub over_lasts : (s n : Diagrams) → Keeps s n → (count : ℕ) (f : Id) → IsLive s f → IsOver s count f → IsOver n count f
-over_lasts s n k count f l o x y same =
-    eval-lasts s n k.was k.now k.extends f l x
-    ∙ o x y (λ v h. same v (rw k.extends.props h))
-    ∙ sym (eval-lasts s n k.was k.now k.extends f l y)
+pub over_lasts : (s n : Diagrams) → Keeps s n → (count : ℕ) (f : Id) → IsLive s f → IsOverObligations s count f → IsOverObligations n count f
+over_lasts s n k count f l o = DependsOn-lasts s n k f (λ p. IsObligation p count) l o
 
 -- a result in the grown store
-pub composed_now : (s n : Diagrams) → Keeps s n → (ids : List Id) → AllTruths s ids → (f i : Id) → IsLive s f → IsOver s (length ids) f → Composes s n ids f i → IsComposed n ids f i
+pub composed_now : (s n : Diagrams) → Keeps s n → (ids : List Id) → AllTruths s ids → (f i : Id) → IsLive s f → IsOverObligations s (length ids) f → Composes s n ids f i → IsComposed n ids f i
 composed_now s n k ids t f i l o m = record {
   live = live_lasts s n k.extends f l;
   over = over_lasts s n k (length ids) f l o;
@@ -93,12 +91,9 @@ composed_lasts s n k ids t f i c = composed_now s n k ids t f i c.live c.over (m
 pub all_composed_last : (s n : Diagrams) → Keeps s n → (ids : List Id) → AllTruths s ids → (m : Memo Id) → AllKept same_id (IsComposed s ids) m → AllKept same_id (IsComposed n ids) m
 all_composed_last s n k ids t m r = kept_weaker same_id (IsComposed s ids) (IsComposed n ids) m (λ f i c. composed_lasts s n k ids t f i c) r
 
-pub composed_terminal : (s : Diagrams) (ids : List Id) (f : Id) (x : ℕ) → top_of s f ≡ Some (Terminal x) → IsLive s f → Composes s s ids f f
-composed_terminal s ids f x e l = record { live = l; value = λ a. eval-terminal s f x e a ∙ sym (eval-terminal s f x e (replaced s ids a)) }
-
 pub composed_step : (s0 s1 s2 s3 : Diagrams) → Keeps s0 s1 → Keeps s1 s2 → Keeps s2 s3 → (ids : List Id) → AllTruths s0 ids → (v : ℕ) (f lo hi new_lo new_hi id : Id)
-    → top_of s0 f ≡ Some (Node v lo hi) → IsOver s0 (length ids) f → Composes s0 s1 ids lo new_lo → Composes s1 s2 ids hi new_hi
-    → (q : ℕ) → q ≡ s0.props → Gives s2 s3 (Ite (item_of ids (v - q)) new_hi new_lo) id
+    → top_of s0 f ≡ Some (Node v lo hi) → IsOverObligations s0 (length ids) f → Composes s0 s1 ids lo new_lo → Composes s1 s2 ids hi new_hi
+    → (q : ℕ) → q ≡ s0.props → Gives s2 s3 (Ite (id_at ids (v - q)) new_hi new_lo) id
     → Composes s0 s3 ids f id
 composed_step s0 s1 s2 s3 k0 k1 k2 ids t v f lo hi new_lo new_hi id e o ml mh q same g = record {
   live = g.means.live;
@@ -107,9 +102,9 @@ composed_step s0 s1 s2 s3 k0 k1 k2 ids t v f lo hi new_lo new_hi id e o ml mh q 
       let p = own s0 k0.was v f lo hi e in
       let h = top_obligation s0 k0.was (length ids) v f lo hi e o in
       let b : v - s0.props < length ids = let x = h.0 in let y = h.1 in omega arith in
-      let cell = item_of ids (v - s0.props) in
+      let cell = id_at ids (v - s0.props) in
       let m : eval s3 id a ≡ (if eval s2 cell a == 1 then eval s2 new_hi a else eval s2 new_lo a) =
-      g.means.value a ∙ ap (λ p. if eval s2 (item_of ids (v - p)) a == 1 then eval s2 new_hi a else eval s2 new_lo a) same in
+      g.means.value a ∙ ap (λ p. if eval s2 (id_at ids (v - p)) a == 1 then eval s2 new_hi a else eval s2 new_lo a) same in
       let c2 : eval s2 cell a ≡ eval s0 cell a =
       eval-lasts s1 s2 k1.was k1.now k1.extends cell (truth_lasts s0 s1 k0 cell (t _ b)).live a ∙ eval-lasts s0 s1 k0.was k0.now k0.extends cell (t _ b).live a in
       let l2 : eval s2 new_lo a ≡ eval s0 lo (replaced s0 ids a) = eval-lasts s1 s2 k1.was k1.now k1.extends new_lo ml.live a ∙ ml.value a in
@@ -122,13 +117,13 @@ composed_step s0 s1 s2 s3 k0 k1 k2 ids t v f lo hi new_lo new_hi id e o ml mh q 
 pub record Descends (s : Diagrams) (ids : List Id) (f lo hi : Id) (v : ℕ) : Type 0 where
   pub lo_live : IsLive s lo
   pub hi_live : IsLive s hi
-  pub lo_over : IsOver s (length ids) lo
-  pub hi_over : IsOver s (length ids) hi
+  pub lo_over : IsOverObligations s (length ids) lo
+  pub hi_over : IsOverObligations s (length ids) hi
   pub own : IsObligation s.props (length ids) v
   pub lo_less : tree_size (tree s lo) < tree_size (tree s f)
   pub hi_less : tree_size (tree s hi) < tree_size (tree s f)
 
-pub descends : (s : Diagrams) → IsCanonical s → (ids : List Id) (f lo hi : Id) (v : ℕ) → top_of s f ≡ Some (Node v lo hi) → IsOver s (length ids) f → Descends s ids f lo hi v
+pub descends : (s : Diagrams) → IsCanonical s → (ids : List Id) (f lo hi : Id) (v : ℕ) → top_of s f ≡ Some (Node v lo hi) → IsOverObligations s (length ids) f → Descends s ids f lo hi v
 descends s c ids f lo hi v e o =
     let d = down s c f lo hi v e in
     let p = own s c v f lo hi e in

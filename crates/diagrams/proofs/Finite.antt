@@ -1,15 +1,15 @@
 -- Finite sets of variables serve in place of all assignments.
-use Rattle.std.proofs.Common.{◌≡◌, ℕ, Bool, true, false, cond, if◌then◌else◌, refl, sym, ◌∙◌, ap, ◌⊎◌, inl, inr, List, [], ◌∷◌, ◌++◌, eqb, eq-eqb, IsSome}
+use Rattle.std.proofs.Common.{◌≡◌, ℕ, Bool, true, false, cond, refl, sym, ◌∙◌, ap, inl, inr, List, [], ◌∷◌, ◌++◌, eqb, eq-eqb}
 use Rattle.std.specs.Prelude.{◌||◌, ◌&&◌, filter}
+use Rattle.std.proofs.lemmas.Bool.{cases_Bool, eqb-true, or_left, or_right}
 use Rattle.diagrams.specs.declared.top.Id.{Id}
-use Rattle.diagrams.specs.Tree.{Tree, Leaf, Branch, Assignment, value_at, truths}
+use Rattle.diagrams.specs.Tree.{Tree, Constant, Branch, Assignment, value_at, truths}
 use Rattle.diagrams.specs.Eval.{Diagrams, tree, eval}
-use Rattle.diagrams.specs.Live.{IsLive, IsCanonical, TellsApart}
+use Rattle.diagrams.specs.Live.{IsLive, IsCanonical, HasCanonicalIds}
 use Rattle.diagrams.proofs.Meaning.{same_id_by_value}
-use Rattle.diagrams.proofs.Table.{bool_cases, eqb_true}
 
 abbrev pub vars : Tree → List ℕ
-vars (Leaf t) = []
+vars (Constant t) = []
 vars (Branch v lo hi) = v ∷ (vars lo ++ vars hi)
 
 and_false : (c : Bool) → false ≡ (c && false)
@@ -26,25 +26,17 @@ drop_and false c d e h q = q
 
 filter_at : (a : Assignment) (x : ℕ) (xs : List ℕ) (v : ℕ) (b : Bool) → a x ≡ b → truths (filter a xs) v ≡ (truths xs v && a v)
     → truths (cond b (x ∷ filter a xs) (filter a xs)) v ≡ ((eqb x v || truths xs v) && a v)
-filter_at a x xs v true e q = or_and (eqb x v) (truths xs v) (a v) (truths (filter a xs) v) (λ h. sym (ap a (eqb_true x v h)) ∙ e) q
-filter_at a x xs v false e q = drop_and (eqb x v) (truths xs v) (a v) (truths (filter a xs) v) (λ h. sym (ap a (eqb_true x v h)) ∙ e) q
+filter_at a x xs v true e q = or_and (eqb x v) (truths xs v) (a v) (truths (filter a xs) v) (λ h. sym (ap a (eqb-true x v h)) ∙ e) q
+filter_at a x xs v false e q = drop_and (eqb x v) (truths xs v) (a v) (truths (filter a xs) v) (λ h. sym (ap a (eqb-true x v h)) ∙ e) q
 
 truths-filter : (a : Assignment) (vs : List ℕ) (v : ℕ) → truths (filter a vs) v ≡ (truths vs v && a v)
 truths-filter a [] v = refl
 truths-filter a (x ∷ xs) v = filter_at a x xs v (a x) refl (truths-filter a xs v)
 
-or_left : (b c : Bool) → b ≡ true → (b || c) ≡ true
-or_left true c e = refl
-or_left false c e = absurd (cc)
-
-or_right : (b c : Bool) → c ≡ true → (b || c) ≡ true
-or_right true c e = refl
-or_right false c e = e
-
 truths-left : (xs ys : List ℕ) (v : ℕ) → truths xs v ≡ true → truths (xs ++ ys) v ≡ true
 truths-left [] ys v h = absurd (cc)
 truths-left (x ∷ xs) ys v h =
-    elim (bool_cases (eqb x v)) [
+    elim (cases_Bool (eqb x v)) [
       | inl p ↦ or_left (eqb x v) (truths (xs ++ ys) v) p
       | inr p ↦ or_right (eqb x v) (truths (xs ++ ys) v) (truths-left xs ys v (rw p at h))
     ]
@@ -55,7 +47,7 @@ truths-right (x ∷ xs) ys v h = or_right (eqb x v) (truths (xs ++ ys) v) (truth
 
 -- the value depends on the tree's variables alone
 value_at-vars : (t : Tree) (a b : Assignment) → ((v : ℕ) → truths (vars t) v ≡ true → a v ≡ b v) → value_at t a ≡ value_at t b
-value_at-vars (Leaf t) a b same = refl
+value_at-vars (Constant t) a b same = refl
 value_at-vars (Branch v lo hi) a b same =
     rw (
       same v (or_left (eqb v v) (truths (vars lo ++ vars hi) v) (eq-eqb v v refl)),
@@ -83,5 +75,5 @@ same_id_finite s c i j h k same =
     ∙ same (filter a (vars (tree s i) ++ vars (tree s j)))
     ∙ sym (finite_second (tree s i) (tree s j) a))
 
-pub tells_apart : (s : Diagrams) → IsCanonical s → TellsApart s
-tells_apart s c i j h k = (λ e xs. ap (λ x. eval s x (truths xs)) e, λ same. same_id_finite s c i j h k same)
+pub canonical_ids : (s : Diagrams) → IsCanonical s → HasCanonicalIds s
+canonical_ids s c i j h k = (λ e xs. ap (λ x. eval s x (truths xs)) e, λ same. same_id_finite s c i j h k same)

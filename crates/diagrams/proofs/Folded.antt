@@ -1,7 +1,6 @@
 -- The step of a fold over some variables.
-use Rattle.std.proofs.Common.{◌≡◌, ℕ, ◌<◌, ◌≤◌, ◌+◌, arith, Bool, true, false, if◌then◌else◌, refl, sym, ◌∙◌, ap, subst, ◌⊎◌, inl, inr, Option, Some, min, max, Result, IfOk, leb}
+use Rattle.std.proofs.Common.{◌≡◌, ℕ, ◌<◌, ◌≤◌, arith, Bool, true, false, if◌then◌else◌, refl, sym, ◌∙◌, ap, subst, ◌⊎◌, inl, inr, Some, Result, IfOk}
 use Rattle.std.proofs.lemmas.Bool.{cases_lt}
-use Rattle.std.proofs.lemmas.Bool.Decides.{nat_tests}
 use Rattle.std.proofs.lemmas.Result.{IfOk-weaker}
 use Rattle.diagrams.specs.declared.top.Id.{Id}
 use Rattle.diagrams.specs.declared.top.Look.TheVariants.{Terminal, Node}
@@ -13,13 +12,13 @@ use Rattle.diagrams.specs.Eval.{Diagrams, top_of, eval}
 use Rattle.diagrams.specs.Live.{IsLive, StandsAbove, IsCanonical, Keeps}
 use Rattle.diagrams.specs.Branch.{IsBranch}
 use Rattle.diagrams.specs.Work.{applied, CanCombine, Gives}
-use Rattle.diagrams.specs.Turned.{Turns}
+use Rattle.diagrams.specs.Transformed.{Transforms}
 use Rattle.diagrams.specs.Folded.{IsExtremum, Bounds, AgreeOutside, IsExtreme, IsFold, IsJoined}
 use Rattle.diagrams.proofs.Canon.{put-same, put-above, put-ne}
 use Rattle.diagrams.proofs.Meaning.{eval-lasts, eval-node, eval-terminal, live-above}
-use Rattle.diagrams.proofs.Growth.{stands_lasts, stands_less}
-use Rattle.diagrams.proofs.Shown.{depends_from_stands}
-use Rattle.diagrams.proofs.Turned.{IsLocal, turns_branch, function-lasts}
+use Rattle.diagrams.proofs.Growth.{stands_less}
+use Rattle.diagrams.proofs.Expansion.{depends_from_stands}
+use Rattle.diagrams.proofs.Transformed.{IsLocal, transforms_branch, function-lasts}
 
 bounds_same : (op : Op) → IsExtremum op → (x y : ℕ) → y ≡ x → Bounds op x y
 bounds_same And h x y e = elim h [ ]
@@ -90,7 +89,7 @@ step_bounds : (op : Op) → IsExtremum op → (x y p q : ℕ) (d : Bool) → Bou
 step_bounds op h x y p q true b c = bounds_second op h x y q c
 step_bounds op h x y p q false b c = bounds_first op h x y p b
 
--- at a folded variable the extreme is the operation's result on those of the parts
+-- at a folded variable the extreme is the operation's result on those of the cofactors
 pub extreme_step : (op : Op) → IsExtremum op → (from to v : ℕ) → from ≤ v → v < to → (f lo hi : Assignment → ℕ) → ((b : Assignment) → f b ≡ (if b v then hi b else lo b))
     → ((b : Assignment) (d : Bool) → lo (put b v d) ≡ lo b) → ((b : Assignment) (d : Bool) → hi (put b v d) ≡ hi b)
     → (a : Assignment) (x y : ℕ) → IsExtreme op from to lo a x → IsExtreme op from to hi a y → IsExtreme op from to f a (applied op x y)
@@ -112,7 +111,7 @@ pub free_above : (s : Diagrams) → IsCanonical s → (v : ℕ) (i : Id) → Sta
 free_above s c v i h b d = depends_from_stands s c v i h (put b v d) b (λ w k. put-above b v d w k)
 
 -- a constant, or a diagram after the folded variables
-pub fold_terminal : (s : Diagrams) (op : Op) → IsExtremum op → (from to : ℕ) (f : Id) (x : ℕ) → top_of s f ≡ Some (Terminal x) → IsLive s f → Turns s s (IsExtreme op from to) f f
+pub fold_terminal : (s : Diagrams) (op : Op) → IsExtremum op → (from to : ℕ) (f : Id) (x : ℕ) → top_of s f ≡ Some (Terminal x) → IsLive s f → Transforms s s (IsExtreme op from to) f f
 fold_terminal s op h from to f x e l = record {
   live = l;
   value = λ a. extreme_same op h from to (eval s f) a (λ b agree. eval-terminal s f x e b ∙ sym (eval-terminal s f x e a));
@@ -120,7 +119,7 @@ fold_terminal s op h from to f x e l = record {
 }
 
 pub fold_after : (s : Diagrams) (op : Op) → IsExtremum op → (from to : ℕ) (f : Id) (v : ℕ) → to ≤ v → ((a b : Assignment) → ((w : ℕ) → v ≤ w → a w ≡ b w) → eval s f a ≡ eval s f b) → IsLive s f
-    → Turns s s (IsExtreme op from to) f f
+    → Transforms s s (IsExtreme op from to) f f
 fold_after s op h from to f v k d l = record {
   live = l;
   value = λ a. extreme_same op h from to (eval s f) a (λ b agree. d b a (λ w j. agree w (inr (omega arith))));
@@ -143,14 +142,14 @@ joined_branch r s n op folds v lo hi e =
     IfOk-weaker r (λ id. IsBranch s n v lo hi id) (λ id. IsJoined s n op folds v lo hi id) (λ id b. record { means = rw e b.means; above = b.above })
 
 -- the fold of a node, of those of its children
-pub turns_joined : (s0 s1 s2 s3 : Diagrams) → Keeps s0 s1 → Keeps s1 s2 → Keeps s2 s3 → (op : Op) → IsExtremum op → (from to v : ℕ) → v < to → (f lo hi new_lo new_hi id : Id)
+pub transforms_joined : (s0 s1 s2 s3 : Diagrams) → Keeps s0 s1 → Keeps s1 s2 → Keeps s2 s3 → (op : Op) → IsExtremum op → (from to v : ℕ) → v < to → (f lo hi new_lo new_hi id : Id)
     → top_of s0 f ≡ Some (Node v lo hi) → (folds : Bool) → ((folds ≡ true) × (from ≤ v)) ⊎ ((folds ≡ false) × (v < from))
-    → Turns s0 s1 (IsExtreme op from to) lo new_lo → Turns s1 s2 (IsExtreme op from to) hi new_hi → IsJoined s2 s3 op folds v new_lo new_hi id
-    → Turns s0 s3 (IsExtreme op from to) f id
-turns_joined s0 s1 s2 s3 k0 k1 k2 op h from to v less f lo hi new_lo new_hi id e folds (inr n) tlo thi j =
-    turns_branch s0 s1 s2 s3 k0 k1 k2 (IsExtreme op from to) v (extreme_local op from to v n.1) f lo hi new_lo new_hi id e tlo thi
+    → Transforms s0 s1 (IsExtreme op from to) lo new_lo → Transforms s1 s2 (IsExtreme op from to) hi new_hi → IsJoined s2 s3 op folds v new_lo new_hi id
+    → Transforms s0 s3 (IsExtreme op from to) f id
+transforms_joined s0 s1 s2 s3 k0 k1 k2 op h from to v less f lo hi new_lo new_hi id e folds (inr n) tlo thi j =
+    transforms_branch s0 s1 s2 s3 k0 k1 k2 (IsExtreme op from to) v (extreme_local op from to v n.1) f lo hi new_lo new_hi id e tlo thi
     (record { means = rw n.0 at j.means; above = j.above })
-turns_joined s0 s1 s2 s3 k0 k1 k2 op h from to v less f lo hi new_lo new_hi id e folds (inl n) tlo thi j =
+transforms_joined s0 s1 s2 s3 k0 k1 k2 op h from to v less f lo hi new_lo new_hi id e folds (inl n) tlo thi j =
     let node = k0.was.nodes f v lo hi e in
     let means = rw n.0 at j.means in
     record {
@@ -166,10 +165,6 @@ turns_joined s0 s1 s2 s3 k0 k1 k2 op h from to v less f lo hi new_lo new_hi id e
       above = λ w k. j.above w (rw e at k);
     }
 
--- the test whether a variable is folded
-pub folds_cases : (from v : ℕ) → ((leb from v ≡ true) × (from ≤ v)) ⊎ ((leb from v ≡ false) × (v < from))
-folds_cases from v = elim (cases_lt v from) [ inl k ↦ inr (grind (arith, nat_tests), k) | inr k ↦ inl (grind (arith, nat_tests), k) ]
-
-pub fold_ok : {E : Type 0} (r : Result Id E) (s n : Diagrams) (op : Op) (from to : ℕ) (f : Id) → IfOk r (λ id. Turns s n (IsExtreme op from to) f id) → IfOk r (λ id. IsFold s n op from to f id)
+pub fold_ok : {E : Type 0} (r : Result Id E) (s n : Diagrams) (op : Op) (from to : ℕ) (f : Id) → IfOk r (λ id. Transforms s n (IsExtreme op from to) f id) → IfOk r (λ id. IsFold s n op from to f id)
 fold_ok r s n op from to f =
-    IfOk-weaker r (λ id. Turns s n (IsExtreme op from to) f id) (λ id. IsFold s n op from to f id) (λ id t. record { live = t.live; value = t.value })
+    IfOk-weaker r (λ id. Transforms s n (IsExtreme op from to) f id) (λ id. IsFold s n op from to f id) (λ id t. record { live = t.live; value = t.value })

@@ -1,9 +1,9 @@
 -- A memo, as what is right of its results and the memo change.
-use Rattle.std.proofs.Common.{◌≡◌, Bool, true, sym, ◌∙◌, inl, inr, Option, Some, None}
+use Rattle.std.proofs.Common.{◌≡◌, Bool, true, sym, ◌∙◌, inl, inr, Some, None}
+use Rattle.std.proofs.lemmas.Bool.{cases_Bool}
 use Rattle.diagrams.specs.declared.top.Id.{Id}
 use Rattle.diagrams.specs.declared.memo.Memo.{Memo}
 use Rattle.diagrams.specs.Kept.{kept, IsLearnt, AllKept}
-use Rattle.diagrams.proofs.Table.{bool_cases}
 
 -- the results of one relation are results of a weaker one
 pub kept_weaker : {K : Type 0} → (eq : K → K → Bool) (R Q : K → Id → Type 0) (m : Memo K) → ((key : K) (id : Id) → R key id → Q key id) → AllKept eq R m → AllKept eq Q m
@@ -20,7 +20,7 @@ some_same x y e = cc
 pub kept_learnt : {K : Type 0} → (eq : K → K → Bool) → ((a b : K) → eq a b ≡ true → a ≡ b) → (R : K → Id → Type 0) (m n : Memo K) (key : K) (id : Id)
     → AllKept eq R m → R key id → IsLearnt eq m n key id → AllKept eq R n
 kept_learnt eq same R m n key id r t learnt other i e =
-    elim (bool_cases (eq key other)) [
+    elim (cases_Bool (eq key other)) [
       | inl p ↦
           let k : key ≡ other = same key other p in
           let up = learnt other in

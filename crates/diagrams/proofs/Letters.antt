@@ -1,27 +1,26 @@
 -- The values of a tree at all letters, in order.
-use Rattle.std.proofs.Common.{◌≡◌, ◌≢◌, ℕ, zero, suc, ◌<◌, ◌≤◌, ◌+◌, ◌-◌, ◌*◌, ◌/◌, ◌%◌, ◌^◌, arith, Bool, true, false, if◌then◌else◌, refl, sym, ◌∙◌, ap, subst, ◌⊎◌, inl, inr, List, [], ◌∷◌, ◌++◌, length, get_or, eqb, length-append}
-use Rattle.std.specs.Prelude.{◌==◌, nat_lt, ◌&&◌, slice_index, Contains}
-use Rattle.std.specs.Int.{bit_at}
+use Rattle.std.proofs.Common.{◌≡◌, ℕ, zero, suc, ◌<◌, ◌+◌, ◌-◌, ◌^◌, arith, Bool, true, false, if◌then◌else◌, refl, sym, ◌∙◌, ap, inl, inr, List, [], ◌∷◌, ◌++◌, length, get_or, eqb, length-append}
+use Rattle.std.specs.Prelude.{◌==◌, slice_index}
 use Rattle.std.proofs.lemmas.Bool.{cases_lt, cases_order}
 use Rattle.std.proofs.lemmas.Bool.Decides.{nat_tests}
 use Rattle.std.proofs.lemmas.List.{get_or_append_left, get_or-append-add}
-use Rattle.std.proofs.lemmas.Nat.{pow_pos, pow-add}
-use Rattle.std.proofs.Math.Nat.{pow-suc, div-eq_of_lt, mul-add-div_right, mul-add-mod_self_right}
+use Rattle.std.proofs.Math.Nat.{pow-suc}
 use Rattle.diagrams.specs.declared.top.Id.{Id}
-use Rattle.diagrams.specs.Tree.{Tree, Leaf, Branch, Assignment, value_at, IsAbove, IsReduced}
+use Rattle.diagrams.specs.Tree.{Tree, Constant, Branch, value_at}
 use Rattle.diagrams.specs.Eval.{Diagrams, tree, eval, letter_truth, DependsOn}
 use Rattle.diagrams.specs.Live.{IsLive, IsCanonical}
-use Rattle.diagrams.specs.Terminals.{leaves, with_new, IsLeastLetter, AreTerminals}
+use Rattle.diagrams.specs.Terminals.{terminals_of, with_new, IsLeastLetter, AreTerminals}
 use Rattle.diagrams.proofs.Canon.{value_at-agree}
 use Rattle.diagrams.proofs.Meaning.{tree-reduced}
-use Rattle.diagrams.proofs.Shown.{vars_below}
-use Rattle.diagrams.proofs.Windows.{starts_below, starts_zero, IsWindow, window_empty, window_leaf, window_later, window_low, window_high}
+use Rattle.diagrams.proofs.Expansion.{vars_below}
+use Rattle.diagrams.proofs.LetterBits.{own_low, own_high, later_same}
+use Rattle.diagrams.proofs.Windows.{starts_below, starts_zero, IsWindow, window_empty, window_constant, window_later, window_low, window_high}
 use Rattle.diagrams.proofs.Firsts.{AreFirsts, IsFirst, with_new-append, with_new-twice, firsts}
 
 -- the values at the numbers of so many variables from v on, in order
 abbrev pub values : ℕ → ℕ → Tree → List ℕ
 values zero v t = value_at t (λ _. false) ∷ []
-values (suc n) v (Leaf x) = values n (suc v) (Leaf x) ++ values n (suc v) (Leaf x)
+values (suc n) v (Constant x) = values n (suc v) (Constant x) ++ values n (suc v) (Constant x)
 values (suc n) v (Branch w lo hi) =
     if w == v then values n (suc v) lo ++ values n (suc v) hi else values n (suc v) (Branch w lo hi) ++ values n (suc v) (Branch w lo hi)
 
@@ -34,7 +33,7 @@ length_if n false xs ys zs e f g = length-twice n zs zs g g
 
 pub length-values : (n v : ℕ) (t : Tree) → length (values n v t) ≡ 2 ^ n
 length-values zero v t = refl
-length-values (suc n) v (Leaf x) = length-twice n (values n (suc v) (Leaf x)) (values n (suc v) (Leaf x)) (length-values n (suc v) (Leaf x)) (length-values n (suc v) (Leaf x))
+length-values (suc n) v (Constant x) = length-twice n (values n (suc v) (Constant x)) (values n (suc v) (Constant x)) (length-values n (suc v) (Constant x)) (length-values n (suc v) (Constant x))
 length-values (suc n) v (Branch w lo hi) =
     length_if n (w == v) (values n (suc v) lo) (values n (suc v) hi) (values n (suc v) (Branch w lo hi)) (length-values n (suc v) lo) (length-values n (suc v) hi) (length-values n (suc v) (Branch w lo hi))
 
@@ -44,18 +43,18 @@ if_same v w xs ys e = let t : eqb w v ≡ true = grind (arith, nat_tests) in rw 
 if_other : (v w : ℕ) (xs ys : List ℕ) → v < w → (if w == v then xs else ys) ≡ ys
 if_other v w xs ys h = let t : eqb w v ≡ false = grind (arith, nat_tests) in rw t refl
 
--- the leaves give what the values at all numbers give
-pub with_new-values : (to n v : ℕ) (t : Tree) → IsWindow to n v t → (xs : List ℕ) → with_new xs (leaves t) ≡ with_new xs (values n v t)
-with_new-values to zero v (Leaf x) h xs = refl
+-- the terminals_of give what the values at all numbers give
+pub with_new-values : (to n v : ℕ) (t : Tree) → IsWindow to n v t → (xs : List ℕ) → with_new xs (terminals_of t) ≡ with_new xs (values n v t)
+with_new-values to zero v (Constant x) h xs = refl
 with_new-values to zero v (Branch w lo hi) h xs = window_empty to v w lo hi h
-with_new-values to (suc n) v (Leaf x) h xs =
-    with_new-values to n (suc v) (Leaf x) (window_leaf to n v x h) xs ∙ sym (with_new-twice xs (values n (suc v) (Leaf x)))
+with_new-values to (suc n) v (Constant x) h xs =
+    with_new-values to n (suc v) (Constant x) (window_constant to n v x h) xs ∙ sym (with_new-twice xs (values n (suc v) (Constant x)))
 with_new-values to (suc n) v (Branch w lo hi) h xs =
     elim (cases_order v w) [
       | inl e ↦
           let g = rw (← e) at h in
-          with_new-append xs (leaves lo) (leaves hi)
-          ∙ with_new-values to n (suc v) hi (window_high to n v lo hi g) (with_new xs (leaves lo))
+          with_new-append xs (terminals_of lo) (terminals_of hi)
+          ∙ with_new-values to n (suc v) hi (window_high to n v lo hi g) (with_new xs (terminals_of lo))
           ∙ ap (λ ys. with_new ys (values n (suc v) hi)) (with_new-values to n (suc v) lo (window_low to n v lo hi g) xs)
           ∙ sym (with_new-append xs (values n (suc v) lo) (values n (suc v) hi))
           ∙ ap (λ ys. with_new xs ys) (sym (if_same v w _ _ e))
@@ -64,43 +63,6 @@ with_new-values to (suc n) v (Branch w lo hi) h xs =
           ∙ sym (with_new-twice xs (values n (suc v) (Branch w lo hi)))
           ∙ ap (λ ys. with_new xs ys) (sym (if_other v w _ _ k))
       | inr (inr k) ↦ let st = h.starts in absurd (omega arith)
-    ]
-
--- the highest bit of a number below a power of two
-bit_low : (n l : ℕ) → l < 2 ^ n → bit_at l n ≡ 0
-bit_low n l h = rw (div-eq_of_lt {n = l} {m = 2 ^ n} h) refl
-
-bit_high : (n l : ℕ) → l < 2 ^ n → bit_at (2 ^ n + l) n ≡ 1
-bit_high n l h =
-    let one : 2 ^ n + l ≡ 1 * 2 ^ n + l = omega arith in
-    rw (one, mul-add-div_right {m = 2 ^ n} (pow_pos n) 1 l, div-eq_of_lt {n = l} {m = 2 ^ n} h) refl
-
--- the other bits do not change with the highest
-bit_rest : (n l j : ℕ) → j < n → bit_at (2 ^ n + l) j ≡ bit_at l j
-bit_rest n l j h =
-    let k = n - 1 - j in
-    let e : n ≡ suc k + j = omega arith in
-    let power : 2 ^ n ≡ 2 ^ k * 2 * 2 ^ j = ap (λ m. 2 ^ m) e ∙ pow-add 2 (suc k) j ∙ ap (λ m. m * 2 ^ j) (pow-suc 2 k) in
-    rw (power, mul-add-div_right {m = 2 ^ j} (pow_pos j) (2 ^ k * 2) l) (mul-add-mod_self_right (2 ^ k) 2 (l / 2 ^ j))
-
--- the propositions of a letter, by whether it is in the lower half
-own_low : (to n v l : ℕ) → v + suc n ≡ to → l < 2 ^ n → letter_truth to l v ≡ false
-own_low to n v l e h =
-    let t : nat_lt v to ≡ true = grind (arith, nat_tests) in
-    let k : to - 1 - v ≡ n = omega arith in
-    rw (t, k, bit_low n l h) refl
-
-own_high : (to n v l : ℕ) → v + suc n ≡ to → l < 2 ^ n → letter_truth to (2 ^ n + l) v ≡ true
-own_high to n v l e h =
-    let t : nat_lt v to ≡ true = grind (arith, nat_tests) in
-    let k : to - 1 - v ≡ n = omega arith in
-    rw (t, k, bit_high n l h) refl
-
-later_same : (to n v l w : ℕ) → v + suc n ≡ to → v < w → letter_truth to (2 ^ n + l) w ≡ letter_truth to l w
-later_same to n v l w e h =
-    elim (cases_lt w to) [
-      | inl k ↦ let j : to - 1 - w < n = omega arith in rw (bit_rest n l (to - 1 - w) j) refl
-      | inr k ↦ let f : nat_lt w to ≡ false = grind (arith, nat_tests) in rw f refl
     ]
 
 -- a tree after v has one value at a number and at that with the highest bit
@@ -137,12 +99,12 @@ if_false b x y e = rw e refl
 
 -- the value at a number
 pub places : (to n v : ℕ) (t : Tree) → IsWindow to n v t → Places to n v t
-places to zero v (Leaf x) w zero h = refl
-places to zero v (Leaf x) w (suc l) h = absurd (omega arith)
+places to zero v (Constant x) w zero h = refl
+places to zero v (Constant x) w (suc l) h = absurd (omega arith)
 places to zero v (Branch u lo hi) w l h = window_empty to v u lo hi w
-places to (suc n) v (Leaf x) w l h =
-    let i = places to n (suc v) (Leaf x) (window_leaf to n v x w) in
-    places_halves to n v (values n (suc v) (Leaf x)) (values n (suc v) (Leaf x)) (Leaf x) w.end (length-values n (suc v) (Leaf x)) i i l h
+places to (suc n) v (Constant x) w l h =
+    let i = places to n (suc v) (Constant x) (window_constant to n v x w) in
+    places_halves to n v (values n (suc v) (Constant x)) (values n (suc v) (Constant x)) (Constant x) w.end (length-values n (suc v) (Constant x)) i i l h
 places to (suc n) v (Branch u lo hi) w l h =
     elim (cases_order v u) [
       | inl e ↦
@@ -187,7 +149,7 @@ first_letter s f xs x i at len g =
     }
 
 -- what is gathered from a diagram over propositions
-pub are_terminals : (s : Diagrams) → IsCanonical s → (f : Id) → IsLive s f → DependsOn s f (λ v. v < s.props) → (xs : List ℕ) → xs ≡ with_new [] (leaves (tree s f)) → AreTerminals s f xs
+pub are_terminals : (s : Diagrams) → IsCanonical s → (f : Id) → IsLive s f → DependsOn s f (λ v. v < s.props) → (xs : List ℕ) → xs ≡ with_new [] (terminals_of (tree s f)) → AreTerminals s f xs
 unfolding eval
 are_terminals s c f l d xs e =
     let p = s.props in

@@ -1,14 +1,14 @@
 -- What the ids of a canonical store mean.
-use Rattle.std.proofs.Common.{◌≡◌, ℕ, zero, suc, ◌<◌, ◌≤◌, ◌+◌, ◌-◌, ◌^◌, Bool, true, false, cond, if◌then◌else◌, ◌≢◌, refl, sym, ◌∙◌, ap, subst, arith, ◌⊎◌, inl, inr, IsSome, Option, Some, None, Result, IfOk}
+use Rattle.std.proofs.Common.{◌≡◌, ℕ, zero, suc, ◌<◌, ◌≤◌, ◌+◌, if◌then◌else◌, refl, sym, ◌∙◌, ap, arith, IsSome, Option, Some, None, Result, IfOk}
 use Rattle.std.proofs.lemmas.Result.{IfOk-weaker}
 use Rattle.diagrams.specs.declared.top.Id.{Id}
 use Rattle.diagrams.specs.declared.top.Look.{Look}
 use Rattle.diagrams.specs.declared.top.Look.TheVariants.{Terminal, Node}
-use Rattle.diagrams.specs.Tree.{Tree, Leaf, Branch, Assignment, value_at, IsAbove, IsReduced}
-use Rattle.diagrams.specs.Branch.{IsFit}
-use Rattle.diagrams.specs.Eval.{Diagrams, top_of, tree_from, tree_to, limit, tree, eval, DependsOn}
-use Rattle.diagrams.specs.Live.{IsLive, IsTopAbove, StandsAbove, IsNode, IsCanonical, Extends, Keeps, Means, IsTruth}
-use Rattle.diagrams.proofs.Canon.{above-trans, canonical, above_from_depends}
+use Rattle.diagrams.specs.Tree.{Tree, Constant, Branch, Assignment, IsAbove, IsReduced}
+use Rattle.diagrams.specs.Branch.{split_value}
+use Rattle.diagrams.specs.Eval.{Diagrams, top_of, tree_from, tree_to, limit, tree, eval, DependsOn, literal_value}
+use Rattle.diagrams.specs.Live.{IsLive, IsTopAbove, StandsAbove, IsCanonical, Extends, Keeps, Means, IsTruth}
+use Rattle.diagrams.proofs.Canon.{canonical, above_from_depends}
 
 -- a depth that serves for a top
 abbrev pub Serves : ℕ → Option Look → Type 0
@@ -56,7 +56,7 @@ tree-node s c i v lo hi e =
     let down : tree s i ≡ Branch v (tree_to limit s lo) (tree_to limit s hi) = unfold tree in rw e in
     down ∙ (rw (tree_down s c v lo k.lo_above, tree_down s c v hi k.hi_above))
 
-pub tree-terminal : (s : Diagrams) (i : Id) (t : ℕ) → top_of s i ≡ Some (Terminal t) → tree s i ≡ Leaf t
+pub tree-terminal : (s : Diagrams) (i : Id) (t : ℕ) → top_of s i ≡ Some (Terminal t) → tree s i ≡ Constant t
 unfolding tree
 tree-terminal s i t e = rw e
 
@@ -100,7 +100,7 @@ injective_at s c t i j (Some (Node v lo hi)) (Some (Terminal y)) ei ej h k d e =
     let dx = tree-node s c i v lo hi ei in
     let ey = tree-terminal s j y ej in
     absurd (cc)
-injective_at s c (Leaf x) i j (Some (Node v lo hi)) (Some (Node w m g)) ei ej h k d e =
+injective_at s c (Constant x) i j (Some (Node v lo hi)) (Some (Node w m g)) ei ej h k d e =
     let dx = tree-node s c i v lo hi ei in
     absurd (cc)
 injective_at s c (Branch u a b) i j (Some (Node v lo hi)) (Some (Node w m g)) ei ej h k d e =
@@ -119,7 +119,7 @@ injective s c i j h k e = injective_at s c (tree s j) i j (top_of s i) (top_of s
 -- the tree of a live id is reduced
 reduced_at : (s : Diagrams) → IsCanonical s → (t : Tree) (i : Id) (o : Option Look) → top_of s i ≡ o → IsSome o → tree s i ≡ t → IsReduced t
 reduced_at s c t i None e h d = absurd (cc)
-reduced_at s c (Leaf x) i (Some n) e h d = tt
+reduced_at s c (Constant x) i (Some n) e h d = tt
 reduced_at s c (Branch u a b) i (Some (Terminal x)) e h d = let k = tree-terminal s i x e in absurd (cc)
 reduced_at s c (Branch u a b) i (Some (Node v lo hi)) e h d =
     let k = tree-node s c i v lo hi e in
@@ -156,7 +156,7 @@ lasts_at : (s n : Diagrams) → IsCanonical s → IsCanonical n → Extends s n 
 lasts_at s n c d x t i None e h q = absurd (cc)
 lasts_at s n c d x t i (Some (Terminal y)) e h q =
     tree-terminal n i y (x.tops i (Terminal y) e) ∙ sym (tree-terminal s i y e) ∙ q
-lasts_at s n c d x (Leaf y) i (Some (Node v lo hi)) e h q = let k = tree-node s c i v lo hi e in absurd (cc)
+lasts_at s n c d x (Constant y) i (Some (Node v lo hi)) e h q = let k = tree-node s c i v lo hi e in absurd (cc)
 lasts_at s n c d x (Branch u a b) i (Some (Node v lo hi)) e h q =
     let k = tree-node s c i v lo hi e in
     let node = c.nodes i v lo hi e in
@@ -220,3 +220,10 @@ truth_lasts s n k f t = record {
 
 pub means_lasts : (s n : Diagrams) → Keeps s n → (i : Id) (f : Assignment → ℕ) → Means s i f → Means n i f
 means_lasts s n k i f m = record { live = live_lasts s n k.extends i m.live; value = λ a. eval-lasts s n k.was k.now k.extends i m.live a ∙ m.value a }
+
+-- the node of the constants 0 and 1 is the literal of its variable
+pub means_literal_ok : {E : Type 0} (r : Result Id E) (s0 s n : Diagrams) → Keeps s0 s → (v : ℕ) (lo hi : Id) → Means s0 lo (λ _. 0) → Means s hi (λ _. 1)
+    → IfOk r (λ id. Means n id (split_value s v lo hi)) → IfOk r (λ id. Means n id (literal_value v))
+means_literal_ok r s0 s n k v lo hi l h =
+    IfOk-weaker r (λ id. Means n id (split_value s v lo hi)) (λ id. Means n id (literal_value v))
+    (λ id m. record { live = m.live; value = λ a. m.value a ∙ (rw (h.value a, eval-lasts s0 s k.was k.now k.extends lo l.live a, l.value a) refl) })

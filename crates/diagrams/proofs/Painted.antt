@@ -8,22 +8,22 @@ use Rattle.std.proofs.Math.Seq.{set-append_seam}
 use mathlib.Core.Path.{fun_ext}
 use Rattle.diagrams.specs.declared.top.Id.{Id}
 use Rattle.diagrams.specs.declared.cubes.Cube.{Cube}
-use Rattle.diagrams.specs.Tree.{Tree, Leaf, Branch, Assignment, put, value_at, IsReduced, AllVars}
+use Rattle.diagrams.specs.Tree.{Tree, Constant, Branch, Assignment, put, value_at, IsReduced, AllVars}
 use Rattle.diagrams.specs.declared.top.Look.TheVariants.{Terminal, Node}
 use Rattle.diagrams.specs.Eval.{Diagrams, top_of, tree, eval, DependsOn}
 use Rattle.diagrams.specs.Live.{IsLive, IsCanonical}
-use Rattle.diagrams.specs.Cubes.{IsFree, lead, AreCubesOf, shown, shown_cube, AreCubes, painted}
+use Rattle.diagrams.specs.Cubes.{IsFree, lead, AreCubesOf, cube_text, printed_cube, AreCubes, painted}
 use Rattle.diagrams.proofs.Canon.{low, high, value_at-put, canonical, tree_size}
 use Rattle.diagrams.proofs.Meaning.{tree-node, tree-terminal, tree-reduced, live-above}
-use Rattle.diagrams.proofs.Shown.{vars_from_depends}
-use Rattle.diagrams.proofs.Turned.{down}
-use Rattle.diagrams.proofs.Windows.{Starts, starts_below, IsWindow, window_empty, window_leaf, window_later, window_low, window_high}
+use Rattle.diagrams.proofs.Expansion.{vars_from_depends}
+use Rattle.diagrams.proofs.Transformed.{down}
+use Rattle.diagrams.proofs.Windows.{Starts, starts_below, IsWindow, window_empty, window_constant, window_later, window_low, window_high}
 
 -- the cubes of a tree over so many variables from v on
 abbrev pub cubes_at : ℕ → ℕ → Tree → List Cube
-cubes_at zero v (Leaf x) = record { text = []; terminal = x } ∷ []
+cubes_at zero v (Constant x) = record { text = []; terminal = x } ∷ []
 cubes_at zero v (Branch w lo hi) = []
-cubes_at (suc n) v (Leaf x) = map (lead 45) (cubes_at n (suc v) (Leaf x))
+cubes_at (suc n) v (Constant x) = map (lead 45) (cubes_at n (suc v) (Constant x))
 cubes_at (suc n) v (Branch w lo hi) =
     if w == v then map (lead 48) (cubes_at n (suc v) lo) ++ map (lead 49) (cubes_at n (suc v) hi) else map (lead 45) (cubes_at n (suc v) (Branch w lo hi))
 
@@ -42,9 +42,9 @@ not_free v lo hi r f = r.2 (canonical lo hi r.3 r.4 (λ a. sym (low v lo hi a r)
 
 -- the tree's cubes are those of its function
 pub cubes_right : (to n v : ℕ) (t : Tree) → IsWindow to n v t → AreCubesOf n v (value_at t) (cubes_at n v t)
-cubes_right to zero v (Leaf x) w = λ a. refl
+cubes_right to zero v (Constant x) w = λ a. refl
 cubes_right to zero v (Branch u lo hi) w = window_empty to v u lo hi w
-cubes_right to (suc n) v (Leaf x) w = inl (λ a. refl, cubes_at n (suc v) (Leaf x), cubes_right to n (suc v) (Leaf x) (window_leaf to n v x w), refl)
+cubes_right to (suc n) v (Constant x) w = inl (λ a. refl, cubes_at n (suc v) (Constant x), cubes_right to n (suc v) (Constant x) (window_constant to n v x w), refl)
 cubes_right to (suc n) v (Branch u lo hi) w =
     elim (cases_order v u) [
       | inl e ↦
@@ -67,7 +67,7 @@ cubes_right to (suc n) v (Branch u lo hi) w =
 
 -- a cube after a path
 abbrev pub after_path : List ℕ → Cube → Cube
-after_path path cube = record { text = shown (path ++ cube.text); terminal = cube.terminal }
+after_path path cube = record { text = cube_text (path ++ cube.text); terminal = cube.terminal }
 
 map-append : (f : Cube → Cube) (xs ys : List Cube) → map f (xs ++ ys) ≡ map f xs ++ map f ys
 map-append f [] ys = refl
@@ -89,12 +89,12 @@ move_dash path n c = sym (append_assoc path (c ∷ []) (replicate n 45))
 -- what the walk paints after a path whose rest is `-`
 pub painted_right : (to n v from : ℕ) (path : List ℕ) (t : Tree) → from + length path ≡ v → IsWindow to n v t
     → painted (path ++ replicate n 45) from t ≡ map (after_path path) (cubes_at n v t)
-painted_right to zero v from path (Leaf x) e w = refl
+painted_right to zero v from path (Constant x) e w = refl
 painted_right to zero v from path (Branch u lo hi) e w = window_empty to v u lo hi w
-painted_right to (suc n) v from path (Leaf x) e w =
+painted_right to (suc n) v from path (Constant x) e w =
     rw (move_dash path n 45)
-    (painted_right to n (suc v) from (path ++ 45 ∷ []) (Leaf x) (rw (length-more path 45) (omega arith)) (window_leaf to n v x w)
-    ∙ sym (map_lead path 45 (cubes_at n (suc v) (Leaf x))))
+    (painted_right to n (suc v) from (path ++ 45 ∷ []) (Constant x) (rw (length-more path 45) (omega arith)) (window_constant to n v x w)
+    ∙ sym (map_lead path 45 (cubes_at n (suc v) (Constant x))))
 painted_right to (suc n) v from path (Branch u lo hi) e w =
     elim (cases_order v u) [
       | inl s ↦
@@ -148,7 +148,7 @@ paint_step s c from n f lo hi v e vars =
       hi_less = d.hi_less;
     }
 
-pub painted_terminal : (s : Diagrams) (path : List ℕ) (from : ℕ) (f : Id) (x : ℕ) (xs : List Cube) (text : List ℕ) → top_of s f ≡ Some (Terminal x) → text ≡ shown path
+pub painted_terminal : (s : Diagrams) (path : List ℕ) (from : ℕ) (f : Id) (x : ℕ) (xs : List Cube) (text : List ℕ) → top_of s f ≡ Some (Terminal x) → text ≡ cube_text path
     → xs ++ record { text = text; terminal = x } ∷ [] ≡ xs ++ painted path from (tree s f)
 painted_terminal s path from f x xs text e q =
     ap (λ y. xs ++ record { text = y; terminal = x } ∷ []) q ∙ ap (λ t. xs ++ painted path from t) (sym (tree-terminal s f x e))
@@ -166,11 +166,11 @@ painted_node s c path first from f lo hi v xs ys zs e p q r =
     ∙ ap (λ t. xs ++ painted path from t) (sym (tree-node s c f v lo hi e))
 
 starts_vars : (from n : ℕ) (t : Tree) → AllVars (λ w. (from ≤ w) × (w < from + n)) t → Starts from t
-starts_vars from n (Leaf x) vs = tt
+starts_vars from n (Constant x) vs = tt
 starts_vars from n (Branch v lo hi) vs = vs.0.0
 
 vars_before : (from n : ℕ) (t : Tree) → AllVars (λ w. (from ≤ w) × (w < from + n)) t → AllVars (λ w. w < from + n) t
-vars_before from n (Leaf x) vs = tt
+vars_before from n (Constant x) vs = tt
 vars_before from n (Branch v lo hi) vs = (vs.0.1, vars_before from n lo vs.1, vars_before from n hi vs.2)
 
 -- the cubes that are painted from a path of `-` alone

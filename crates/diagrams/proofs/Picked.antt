@@ -1,14 +1,13 @@
 -- The least number with which a diagram holds.
-use Rattle.std.proofs.Common.{◌≡◌, ℕ, zero, suc, ◌<◌, ◌≤◌, ◌+◌, ◌-◌, ◌*◌, ◌^◌, arith, lit<, Bool, true, false, if◌then◌else◌, refl, sym, ◌∙◌, ap, subst, ◌⊎◌, inl, inr, Option, Some, eqb}
+use Rattle.std.proofs.Common.{◌≡◌, ℕ, zero, suc, ◌<◌, ◌≤◌, ◌+◌, ◌-◌, ◌*◌, ◌^◌, arith, lit<, Bool, true, false, if◌then◌else◌, refl, sym, ◌∙◌, ap, inl, inr, Some}
 use Rattle.std.specs.Prelude.{◌==◌}
-use Rattle.std.proofs.lemmas.Bool.{cases_order}
-use Rattle.std.proofs.lemmas.Bool.Decides.{nat_tests}
+use Rattle.std.proofs.lemmas.Bool.{cases_Bool, cases_order, eqb-true}
 use Rattle.std.proofs.lemmas.Nat.{pow_pos}
 use Rattle.std.proofs.Math.Nat.{pow-suc, pow-le-pow_right}
 use Rattle.diagrams.specs.declared.top.Id.{Id}
 use Rattle.diagrams.specs.declared.top.Look.{Look}
 use Rattle.diagrams.specs.declared.top.Look.TheVariants.{Terminal, Node}
-use Rattle.diagrams.specs.Tree.{Tree, Leaf, Branch, Assignment, put, value_at, IsAbove, IsReduced, AllVars}
+use Rattle.diagrams.specs.Tree.{Tree, Constant, Branch, Assignment, put, value_at, IsReduced, AllVars}
 use Rattle.diagrams.specs.Eval.{Diagrams, top_of, tree, eval}
 use Rattle.diagrams.specs.Live.{IsLive, IsTruth, IsCanonical, Keeps}
 use Rattle.diagrams.specs.Inside.{same_look}
@@ -16,25 +15,24 @@ use Rattle.diagrams.specs.Folded.{AgreeOutside}
 use Rattle.diagrams.specs.Picked.{number_of, IsLeastNumber, is_never, first_number}
 use Rattle.diagrams.proofs.Canon.{put-same, put-ne, low, high, tree_size}
 use Rattle.diagrams.proofs.Meaning.{tree-node, tree-terminal, tree-reduced, tree-lasts, live-above}
-use Rattle.diagrams.proofs.Windows.{Starts, starts_above, IsWindow, window_empty, window_leaf, window_later, window_low, window_high}
-use Rattle.diagrams.proofs.Table.{bool_cases, eqb_true}
-use Rattle.diagrams.proofs.Turned.{IsLocal, down}
+use Rattle.diagrams.proofs.Windows.{Starts, starts_above, IsWindow, window_empty, window_constant, window_later, window_low, window_high}
+use Rattle.diagrams.proofs.Transformed.{IsLocal, down}
 
 -- the variables of a tree that starts at `from`
 pub window_vars : (from to : ℕ) (t : Tree) → to - from ≤ 32 → IsReduced t → Starts from t → AllVars (λ v. v < to) t → AllVars (λ v. (v < to) × (to ≤ v + 32)) t
-window_vars from to (Leaf x) few r st vs = tt
+window_vars from to (Constant x) few r st vs = tt
 window_vars from to (Branch v lo hi) few r st vs = (
   (vs.0, omega arith),
   window_vars from to lo few r.3 (starts_above from v lo (omega arith) r.0) vs.1,
   window_vars from to hi few r.4 (starts_above from v hi (omega arith) r.1) vs.2,
 )
 
-never_leaf : (t : Tree) → is_never t ≡ true → t ≡ Leaf 0
-never_leaf (Leaf x) e = ap Leaf (eqb_true x 0 e)
-never_leaf (Branch v lo hi) e = absurd (cc)
+never_constant : (t : Tree) → is_never t ≡ true → t ≡ Constant 0
+never_constant (Constant x) e = ap Constant (eqb-true x 0 e)
+never_constant (Branch v lo hi) e = absurd (cc)
 
 never_value : (t : Tree) (b : Assignment) → is_never t ≡ true → value_at t b ≡ 0
-never_value t b e = rw (never_leaf t e)
+never_value t b e = rw (never_constant t e)
 
 weight : (to n v : ℕ) → v + suc n ≡ to → 2 ^ (to - 1 - v) ≡ 2 ^ n
 weight to n v e = let k : to - 1 - v ≡ n = omega arith in ap (λ x. 2 ^ x) k
@@ -45,7 +43,7 @@ if_less false p x y h k = omega arith
 
 -- the number is below the power of two of the window
 first_less : (to n v : ℕ) (t : Tree) → IsWindow to n v t → first_number to t < 2 ^ n
-first_less to n v (Leaf x) h = pow_pos n
+first_less to n v (Constant x) h = pow_pos n
 first_less to zero v (Branch w lo hi) h = window_empty to v w lo hi h
 first_less to (suc n) v (Branch w lo hi) h =
     elim (cases_order v w) [
@@ -80,7 +78,7 @@ least_own to n v lo hi h b e below_lo below_hi =
     let hl = first_less to n (suc v) lo (window_low to n v lo hi h) in
     let hh = first_less to n (suc v) hi (window_high to n v lo hi h) in
     rw (weight to n v h.end)
-    (elim (bool_cases (b v)) [
+    (elim (cases_Bool (b v)) [
       | inl t ↦
           bound_true (2 ^ n) (first_number to hi) (first_number to lo) (number_of b n (suc v)) (is_never lo) (b v)
           (λ d. below_hi (sym (value_true (b v) (value_at hi b) (value_at lo b) t) ∙ e)) hh hl t
@@ -92,7 +90,7 @@ least_own to n v lo hi h b e below_lo below_hi =
 
 -- no number with which the tree is 1 is less
 least_bound : (to n v : ℕ) (t : Tree) → IsWindow to n v t → (b : Assignment) → value_at t b ≡ 1 → first_number to t ≤ number_of b n v
-least_bound to n v (Leaf x) h b e = omega arith
+least_bound to n v (Constant x) h b e = omega arith
 least_bound to zero v (Branch w lo hi) h b e = window_empty to v w lo hi h
 least_bound to (suc n) v (Branch w lo hi) h b e =
     elim (cases_order v w) [
@@ -150,30 +148,30 @@ takes_high to n v lo hi a e never x =
           ∙ sym (value_true (is_never lo) (2 ^ (to - 1 - v) + first_number to hi) (first_number to lo) never),
     )
 
-one_leaf : (x : ℕ) → x < 2 → (x == 0) ≡ false → x ≡ 1
-one_leaf zero h e = absurd (cc)
-one_leaf (suc zero) h e = refl
-one_leaf (suc (suc x)) h e = absurd (omega arith)
+one_constant : (x : ℕ) → x < 2 → (x == 0) ≡ false → x ≡ 1
+one_constant zero h e = absurd (cc)
+one_constant (suc zero) h e = refl
+one_constant (suc (suc x)) h e = absurd (omega arith)
 
 other_never : (v : ℕ) (lo hi : Tree) → IsReduced (Branch v lo hi) → is_never lo ≡ true → is_never hi ≡ false
 other_never v lo hi r e =
-    elim (bool_cases (is_never hi)) [
-      | inl t ↦ absurd (r.2 (never_leaf lo e ∙ sym (never_leaf hi t)))
+    elim (cases_Bool (is_never hi)) [
+      | inl t ↦ absurd (r.2 (never_constant lo e ∙ sym (never_constant hi t)))
       | inr f ↦ f
     ]
 
 -- a tree that is not the constant 0 is 1 with its number
 pub takes : (to n v : ℕ) (t : Tree) → IsWindow to n v t → ((a : Assignment) → value_at t a < 2) → is_never t ≡ false → (a : Assignment) → Takes to n v t a
-takes to zero v (Leaf x) h truth e a = (a, (λ w o. refl), one_leaf x (truth a) e, refl)
+takes to zero v (Constant x) h truth e a = (a, (λ w o. refl), one_constant x (truth a) e, refl)
 takes to zero v (Branch w lo hi) h truth e a = window_empty to v w lo hi h
-takes to (suc n) v (Leaf x) h truth e a = takes_later to n v (Leaf x) a h.end (takes to n (suc v) (Leaf x) (window_leaf to n v x h) truth e (put a v false))
+takes to (suc n) v (Constant x) h truth e a = takes_later to n v (Constant x) a h.end (takes to n (suc v) (Constant x) (window_constant to n v x h) truth e (put a v false))
 takes to (suc n) v (Branch w lo hi) h truth e a =
     elim (cases_order v w) [
       | inl s ↦
           let g = rw (← s) at h in
           let on : (c : Assignment) → value_at (Branch v lo hi) c < 2 = rw (← s) at truth in
           rw (← s)
-          (elim (bool_cases (is_never lo)) [
+          (elim (cases_Bool (is_never lo)) [
             | inl t ↦
                 takes_high to n v lo hi a g.end t
                 (takes to n (suc v) hi (window_high to n v lo hi g) (λ c. rw (high v lo hi c g.reduced) at (on (put c v true))) (other_never v lo hi g.reduced t) (put a v true))
@@ -186,7 +184,7 @@ takes to (suc n) v (Branch w lo hi) h truth e a =
     ]
 
 never_number : (to : ℕ) (t : Tree) → is_never t ≡ true → first_number to t ≡ 0
-never_number to t e = rw (never_leaf t e) refl
+never_number to t e = rw (never_constant t e) refl
 
 -- the number of a tree that starts at `from` is the least with which it is 1
 pub least_number : (from to : ℕ) (t : Tree) → from ≤ to → IsReduced t → Starts from t → AllVars (λ v. v < to) t → ((a : Assignment) → value_at t a < 2) → (a : Assignment)
@@ -196,7 +194,7 @@ least_number from to t range r st vs truth a =
     record {
       least = λ b agree e. least_bound to (to - from) from t w b e;
       taken =
-          elim (bool_cases (is_never t)) [
+          elim (cases_Bool (is_never t)) [
             | inl n ↦ inr (never_number to t n, λ b agree e. let z = never_value t b n in absurd (cc))
             | inr n ↦ inl (takes to (to - from) from t w truth n a)
           ];
@@ -230,7 +228,7 @@ number_fits to v lo hi r vs =
     omega (arith, h, k)
   where
     all_weaker : (to : ℕ) (t : Tree) → AllVars (λ w. (w < to) × (to ≤ w + 32)) t → AllVars (λ w. w < to) t
-    all_weaker to (Leaf x) vs = tt
+    all_weaker to (Constant x) vs = tt
     all_weaker to (Branch v lo hi) vs = (vs.0.0, all_weaker to lo vs.1, all_weaker to hi vs.2)
 
 -- what the walk to the number knows at a node

@@ -1,34 +1,22 @@
 -- The fields of a store as nodes are added.
-use Rattle.std.proofs.Common.{◌≡◌, ℕ, zero, suc, ◌<◌, ◌≤◌, ◌+◌, Bool, true, false, cond, ◌≢◌, refl, sym, ◌∙◌, ap, arith, ◌⊎◌, inl, inr, IsSome, Option, Some, None, List, [], ◌∷◌, ◌++◌, length, map, eqb, eq-eqb, take, ◌-◌, get_or}
+use Rattle.std.proofs.Common.{◌≡◌, ℕ, zero, suc, ◌≤◌, ◌+◌, Bool, true, false, cond, refl, sym, ◌∙◌, ap, arith, ◌⊎◌, inl, inr, Option, Some, None, List, [], ◌∷◌, ◌++◌, length, map, eqb, eq-eqb, take, ◌-◌, get_or}
 use Rattle.std.proofs.lemmas.Grind.{common_steps}
 use Rattle.std.specs.Prelude.{◌&&◌}
 use Rattle.std.specs.Prelude.{slice_get}
 use Rattle.std.specs.Option.{option_flatten, option_map}
-use Rattle.std.proofs.lemmas.Bool.Decides.{nat_tests}
+use Rattle.std.proofs.lemmas.Bool.{cases_Bool, and_parts, eqb-true}
 use Rattle.std.specs.HashMap as hash
-use Rattle.std.specs.HashMap.{HashMap}
 use Rattle.std.proofs.lemmas.Option.{slice_get-map, slice_get_within, slice_get_read}
 use Rattle.diagrams.specs.declared.top.Id.{Id}
 use Rattle.diagrams.specs.declared.top.Look.{Look}
 use Rattle.diagrams.specs.declared.top.Look.TheVariants.{Terminal, Node}
 use Rattle.diagrams.specs.Branch.{IsFit}
-use Rattle.diagrams.specs.Eval.{Diagrams, top_of, limit}
-use Rattle.diagrams.specs.Live.{IsLive, IsTopAbove, StandsAbove, IsNode, IsCanonical, Extends}
-use Rattle.diagrams.specs.Inside.{same_look, store_of, IsKept}
+use Rattle.diagrams.specs.Eval.{Diagrams, top_of}
+use Rattle.diagrams.specs.Live.{IsLive, Extends}
+use Rattle.diagrams.specs.Inside.{same_look, store_of, HasUniqueTable}
 use Rattle.diagrams.specs.declared.store.Store.TheInside.{Inside}
 use Rattle.diagrams.proofs.Meaning.{live_some}
 use Rattle.diagrams.proofs.Growth.{Adds, adds_canonical}
-
-pub bool_cases : (b : Bool) → (b ≡ true) ⊎ (b ≡ false)
-bool_cases true = inl refl
-bool_cases false = inr refl
-
-pub and_true : (a b : Bool) → (a && b) ≡ true → (a ≡ true) × (b ≡ true)
-and_true true b e = (refl, e)
-and_true false b e = absurd (cc)
-
-pub eqb_true : (a b : ℕ) → eqb a b ≡ true → a ≡ b
-eqb_true a b e = grind (arith, nat_tests)
 
 flat : (o : Option Look) → option_flatten (option_map (λ x. Some x) o) ≡ o
 flat None = refl
@@ -81,13 +69,13 @@ node_same v w l h m g a b c =
     rw (a, d, e)
 
 pub same_true : (a b : Look) → same_look a b ≡ true → a ≡ b
-same_true (Terminal x) (Terminal y) e = ap Terminal (eqb_true x y e)
+same_true (Terminal x) (Terminal y) e = ap Terminal (eqb-true x y e)
 same_true (Terminal x) (Node w m g) e = absurd (cc)
 same_true (Node v l h) (Terminal y) e = absurd (cc)
 same_true (Node v l h) (Node w m g) e =
-    let p = and_true (eqb v w) (eqb l.0 m.0 && eqb h.0 g.0) e in
-    let q = and_true (eqb l.0 m.0) (eqb h.0 g.0) p.1 in
-    node_same v w l h m g (eqb_true v w p.0) (eqb_true l.0 m.0 q.0) (eqb_true h.0 g.0 q.1)
+    let p = and_parts (eqb v w) (eqb l.0 m.0 && eqb h.0 g.0) e in
+    let q = and_parts (eqb l.0 m.0) (eqb h.0 g.0) p.1 in
+    node_same v w l h m g (eqb-true v w p.0) (eqb-true l.0 m.0 q.0) (eqb-true h.0 g.0 q.1)
 
 pub same_refl : (a : Look) → same_look a a ≡ true
 same_refl (Terminal x) = eq-eqb x x refl
@@ -99,7 +87,7 @@ found_old : (s n : Diagrams) (i : Id) (top : Look) (f g : Look → Option ℕ) �
     → ((m : Look) → g m ≡ cond (same_look top m) (Some (i.0)) (f m))
     → (j : Id) (m : Look) → top_of s j ≡ Some m → g m ≡ Some (j.0)
 found_old s n i top f g a new found up j m p =
-    elim (bool_cases (same_look top m)) [
+    elim (cases_Bool (same_look top m)) [
       | inl t ↦ absurd (new j (p ∙ ap (λ x. Some x) (sym (same_true top m t))))
       | inr t ↦ up m ∙ (rw t (found j m p))
     ]
@@ -144,11 +132,11 @@ top_read a i top l e =
 
 -- b is a with a node that the table lacked, at the end
 pub record Grows (a b : Inside) (top : Look) (id : ℕ) : Type 0 where
-  pub kept : IsKept b
+  pub kept : HasUniqueTable b
   pub extends : Extends (store_of a) (store_of b)
   pub at : top_of (store_of b) (record { 0 = id }) ≡ Some top
 
-pub grows : (a b : Inside) (top : Look) (id : ℕ) → IsKept a → IsFit (store_of a) top → hash.get same_look a.unique top ≡ None
+pub grows : (a b : Inside) (top : Look) (id : ℕ) → HasUniqueTable a → IsFit (store_of a) top → hash.get same_look a.unique top ≡ None
     → b.props ≡ a.props → b.nodes.items ≡ a.nodes.items ++ top ∷ [] → id ≡ length a.nodes.items
     → ((m : Look) → hash.get same_look b.unique m ≡ cond (same_look top m) (Some id) (hash.get same_look a.unique m))
     → Grows a b top id
@@ -170,7 +158,7 @@ grows a b top id k f absent props items e up =
     }
 
 -- fields that mean the same store, with the same table
-pub kept_same : (a b : Inside) → IsKept a → b.props ≡ a.props → b.nodes.items ≡ a.nodes.items → b.unique.entries ≡ a.unique.entries → IsKept b
+pub kept_same : (a b : Inside) → HasUniqueTable a → b.props ≡ a.props → b.nodes.items ≡ a.nodes.items → b.unique.entries ≡ a.unique.entries → HasUniqueTable b
 kept_same a b k p q r = record {
   few = rw p k.few;
   canonical = rw (p, q) k.canonical;
@@ -187,7 +175,7 @@ none a e i n q = let h : slice_get a.nodes.items i.0 ≡ Some n = sym (top-plain
 lost : (a : Inside) → a.unique.entries ≡ [] → (n : Look) (k : ℕ) → hash.get same_look a.unique n ≡ Some k → ⊥
 lost a e n k q = let h = rw e at q in absurd (cc)
 
-pub kept_empty : (a : Inside) → a.props ≤ 32 → a.nodes.items ≡ [] → a.unique.entries ≡ [] → IsKept a
+pub kept_empty : (a : Inside) → a.props ≤ 32 → a.nodes.items ≡ [] → a.unique.entries ≡ [] → HasUniqueTable a
 kept_empty a h e u = record {
   few = h;
   canonical = record {

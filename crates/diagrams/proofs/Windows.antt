@@ -1,14 +1,14 @@
 -- Trees over the variables of a window: so many from v to before `to`.
 use Rattle.std.proofs.Common.{◌≡◌, ℕ, suc, ◌<◌, ◌≤◌, ◌+◌, arith}
-use Rattle.diagrams.specs.Tree.{Tree, Leaf, Branch, IsAbove, IsReduced, AllVars}
+use Rattle.diagrams.specs.Tree.{Tree, Constant, Branch, IsAbove, IsReduced, AllVars}
 
 -- the tree has no variable before v
 abbrev pub Starts : ℕ → Tree → Type 0
-Starts v (Leaf t) = Unit {0}
+Starts v (Constant t) = Unit {0}
 Starts v (Branch w lo hi) = v ≤ w
 
 pub starts_above : (v w : ℕ) (t : Tree) → v ≤ suc w → IsAbove w t → Starts v t
-starts_above v w (Leaf t) h k = tt
+starts_above v w (Constant t) h k = tt
 starts_above v w (Branch x lo hi) h k = omega arith
 
 -- the tree at a window: so many variables from v to before `to`
@@ -21,8 +21,8 @@ pub record IsWindow (to n v : ℕ) (t : Tree) : Type 0 where
 pub window_empty : {A : Type 0} → (to v w : ℕ) (lo hi : Tree) → IsWindow to 0 v (Branch w lo hi) → A
 window_empty to v w lo hi h = let e = h.end in let st = h.starts in let k = h.vars.0 in absurd (omega arith)
 
-pub window_leaf : (to n v x : ℕ) → IsWindow to (suc n) v (Leaf x) → IsWindow to n (suc v) (Leaf x)
-window_leaf to n v x h = record { end = let e = h.end in omega arith; reduced = tt; starts = tt; vars = tt }
+pub window_constant : (to n v x : ℕ) → IsWindow to (suc n) v (Constant x) → IsWindow to n (suc v) (Constant x)
+window_constant to n v x h = record { end = let e = h.end in omega arith; reduced = tt; starts = tt; vars = tt }
 
 pub window_later : (to n v w : ℕ) (lo hi : Tree) → v < w → IsWindow to (suc n) v (Branch w lo hi) → IsWindow to n (suc v) (Branch w lo hi)
 window_later to n v w lo hi less h = record { end = let e = h.end in omega arith; reduced = h.reduced; starts = omega arith; vars = h.vars }
@@ -44,9 +44,9 @@ window_high to n v lo hi h = record {
 }
 
 pub starts_below : (v : ℕ) (t : Tree) → Starts (suc v) t → IsAbove v t
-starts_below v (Leaf x) h = tt
+starts_below v (Constant x) h = tt
 starts_below v (Branch w lo hi) h = omega arith
 
 pub starts_zero : (t : Tree) → Starts 0 t
-starts_zero (Leaf x) = tt
+starts_zero (Constant x) = tt
 starts_zero (Branch w lo hi) = omega arith

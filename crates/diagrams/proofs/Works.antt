@@ -1,9 +1,8 @@
 -- Results of works as the store grows, and what a table of them remembers.
-use Rattle.std.proofs.Common.{◌≡◌, ℕ, zero, suc, ◌<◌, ◌≤◌, ◌+◌, Bool, true, false, cond, if◌then◌else◌, ◌≢◌, refl, sym, ◌∙◌, ap, arith, ◌⊎◌, inl, inr, IsSome, Option, Some, None, eqb}
+use Rattle.std.proofs.Common.{◌≡◌, ℕ, Bool, true, refl, sym, ◌∙◌, ap, eqb}
 use Rattle.std.specs.Prelude.{◌&&◌}
+use Rattle.std.proofs.lemmas.Bool.{and_parts, eqb-true}
 use Rattle.diagrams.specs.declared.top.Id.{Id}
-use Rattle.diagrams.specs.declared.top.Look.{Look}
-use Rattle.diagrams.specs.declared.top.Look.TheVariants.{Terminal, Node}
 use Rattle.diagrams.specs.declared.work.Op.{Op}
 use Rattle.diagrams.specs.declared.work.Op.TheVariants.{And, Or, Iff, Least, Greatest, Pair}
 use Rattle.diagrams.specs.declared.work.Work.{Work}
@@ -11,12 +10,12 @@ use Rattle.diagrams.specs.declared.work.Work.TheVariants.{Ite, Combine}
 use Rattle.diagrams.specs.declared.memo.Memo.{Memo}
 use Rattle.diagrams.specs.contracts.work.OpPartialEq.TheImpl as op_eq
 use Rattle.diagrams.specs.Tree.{Assignment}
-use Rattle.diagrams.specs.Eval.{Diagrams, top_of, eval}
-use Rattle.diagrams.specs.Live.{IsLive, IsTopAbove, StandsAbove, IsCanonical, Extends, Keeps, Means}
+use Rattle.diagrams.specs.Eval.{Diagrams, top_of}
+use Rattle.diagrams.specs.Live.{IsLive, StandsAbove, Extends, Keeps}
 use Rattle.diagrams.specs.Work.{work_value, IsLiveWork, IsWorkAbove, Gives, IsDone, same_work}
 use Rattle.diagrams.specs.Kept.{AllKept}
 use Rattle.diagrams.proofs.Meaning.{live_some, live_lasts, eval-lasts}
-use Rattle.diagrams.proofs.Table.{eqb_true, and_true, id_same}
+use Rattle.diagrams.proofs.Table.{id_same}
 use Rattle.diagrams.proofs.Kept.{kept_weaker}
 
 -- what stands above v in the grown store stood above v before, if it was live
@@ -75,7 +74,7 @@ op_true Or Or e = refl
 op_true Iff Iff e = refl
 op_true Least Least e = refl
 op_true Greatest Greatest e = refl
-op_true (Pair x) (Pair y) e = ap Pair (eqb_true x y e)
+op_true (Pair x) (Pair y) e = ap Pair (eqb-true x y e)
 op_true And (Pair y) e = absurd (cc)
 op_true (Pair x) And e = absurd (cc)
 op_true And Or e = absurd (cc)
@@ -108,19 +107,19 @@ op_true Greatest Iff e = absurd (cc)
 op_true Greatest Least e = absurd (cc)
 
 pub id_true : (i j : Id) → eqb i.0 j.0 ≡ true → i ≡ j
-id_true i j e = id_same i j (eqb_true i.0 j.0 e)
+id_true i j e = id_same i j (eqb-true i.0 j.0 e)
 
 pub same_work_true : (a b : Work) → same_work a b ≡ true → a ≡ b
 same_work_true (Ite t y n) (Ite u z m) e =
-    let p = and_true (eqb t.0 u.0) (eqb y.0 z.0 && eqb n.0 m.0) e in
-    let q = and_true (eqb y.0 z.0) (eqb n.0 m.0) p.1 in
+    let p = and_parts (eqb t.0 u.0) (eqb y.0 z.0 && eqb n.0 m.0) e in
+    let q = and_parts (eqb y.0 z.0) (eqb n.0 m.0) p.1 in
     let tu : t ≡ u = id_true t u p.0 in
     let yz : y ≡ z = id_true y z q.0 in
     let nm : n ≡ m = id_true n m q.1 in
     rw (tu, yz, nm)
 same_work_true (Combine o f g) (Combine p h i) e =
-    let x = and_true (op_same o p) (eqb f.0 h.0 && eqb g.0 i.0) e in
-    let y = and_true (eqb f.0 h.0) (eqb g.0 i.0) x.1 in
+    let x = and_parts (op_same o p) (eqb f.0 h.0 && eqb g.0 i.0) e in
+    let y = and_parts (eqb f.0 h.0) (eqb g.0 i.0) x.1 in
     let op : o ≡ p = op_true o p x.0 in
     let fh : f ≡ h = id_true f h y.0 in
     let gi : g ≡ i = id_true g i y.1 in

@@ -8,6 +8,7 @@ use Rattle.diagrams.specs.declared.store.Store.TheInside.{Inside}
 use Rattle.diagrams.specs.Eval.{Diagrams, top_of}
 use Rattle.diagrams.specs.Live.{IsCanonical}
 
+-- whether two tops are the same
 abbrev pub same_look : Look → Look → Bool
 same_look = (look_eq.ghosts).eq
 
@@ -16,7 +17,7 @@ abbrev pub store_of : Inside → Diagrams
 store_of a = record { props = a.props; tops = map Some a.nodes.items }
 
 -- the table finds each node, and only nodes
-pub record IsKept (a : Inside) : Type 0 where
+pub record HasUniqueTable (a : Inside) : Type 0 where
   pub few : a.props ≤ 32
   pub canonical : IsCanonical (store_of a)
   pub found : (i : Id) (n : Look) → top_of (store_of a) i ≡ Some n → hash.get same_look a.unique n ≡ Some (i.0)

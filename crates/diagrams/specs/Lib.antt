@@ -2,12 +2,12 @@ pub mod Tree
 pub mod Eval
 pub mod Live
 pub mod Branch
-pub mod Shown
+pub mod Expansion
 pub mod Inside
 pub mod Kept
 pub mod Work
-pub mod Parts
-pub mod Turned
+pub mod Cofactors
+pub mod Transformed
 pub mod Folded
 pub mod Picked
 pub mod Composed

@@ -54,5 +54,5 @@ pub record IsTruth (s : Diagrams) (i : Id) : Type 0 where
   pub truth : (a : Assignment) → eval s i a < 2
 
 -- live ids are equal exactly where they have one value at every finite set of true variables
-abbrev pub TellsApart : Diagrams → Type 0
-TellsApart s = (i j : Id) → IsLive s i → IsLive s j → (i ≡ j) ↔ ((xs : List ℕ) → eval s i (truths xs) ≡ eval s j (truths xs))
+abbrev pub HasCanonicalIds : Diagrams → Type 0
+HasCanonicalIds s = (i j : Id) → IsLive s i → IsLive s j → (i ≡ j) ↔ ((xs : List ℕ) → eval s i (truths xs) ≡ eval s j (truths xs))

@@ -2,7 +2,7 @@
 use Rattle.std.specs.Prelude.{◌≡◌, ℕ, ◌<◌, ◌≤◌, ◌+◌, ◌-◌, ◌^◌, ◌⊎◌, if◌then◌else◌, Bool, false, ◌==◌}
 use Rattle.std.proofs.Common.{zero, suc}
 use Rattle.diagrams.specs.declared.top.Id.{Id}
-use Rattle.diagrams.specs.Tree.{Assignment, Tree, Leaf, Branch}
+use Rattle.diagrams.specs.Tree.{Assignment, Tree, Constant, Branch}
 use Rattle.diagrams.specs.Eval.{Diagrams, eval}
 use Rattle.diagrams.specs.Live.{IsLive}
 use Rattle.diagrams.specs.Folded.{AgreeOutside}
@@ -25,10 +25,10 @@ pub record IsPick (s n : Diagrams) (from to : ℕ) (f id : Id) : Type 0 where
 
 -- the tree is the constant 0
 abbrev pub is_never : Tree → Bool
-is_never (Leaf t) = t == 0
+is_never (Constant t) = t == 0
 is_never (Branch v lo hi) = false
 
 -- the least number of the variables before `to` with which a tree holds: each variable is false where that can be
 abbrev pub first_number : ℕ → Tree → ℕ
-first_number to (Leaf t) = 0
+first_number to (Constant t) = 0
 first_number to (Branch v lo hi) = if is_never lo then 2 ^ (to - 1 - v) + first_number to hi else first_number to lo

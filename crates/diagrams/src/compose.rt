@@ -3,7 +3,7 @@ ghost use Rattle.std.specs.Prelude.{length, List, IfOk};
 ghost use Rattle.diagrams.specs.declared.top.Id.{Id};
 ghost use Rattle.diagrams.specs.Eval.{Diagrams};
 ghost use Rattle.diagrams.specs.Live.{IsLive, Keeps};
-ghost use Rattle.diagrams.specs.Composed.{AllTruths, IsOver, Composes, IsRightFor};
+ghost use Rattle.diagrams.specs.Composed.{AllTruths, IsOverObligations, Composes, IsRightFor};
 
 use crate::ite::chosen;
 use crate::memo::Memo;
@@ -35,7 +35,7 @@ impl ComposeMemo {
 /// The diagram in which each obligation is replaced by a diagram, with the results so far.
 fn composed(store: &mut Store, memo: &mut ComposeMemo, f: Id, cells: &[Id]) -> Result<Id, Memory>
     requires live { IsLive store.old f }
-    requires over { IsOver store.old (length cells.now) f }
+    requires over { IsOverObligations store.old (length cells.now) f }
     requires cells { AllTruths store.old cells.now }
     requires right { IsRightFor store.old cells.now memo.old }
     ensures keeps { Keeps store.old store.new }
@@ -63,7 +63,7 @@ impl Store {
     /// The diagram in which each obligation is replaced by its cell.
     pub fn compose(&mut self, f: Id, cells: &[Id]) -> Result<Id, Memory>
         requires live { IsLive self.old f }
-        requires over { IsOver self.old (length cells.now) f }
+        requires over { IsOverObligations self.old (length cells.now) f }
         requires cells { AllTruths self.old cells.now }
         ensures keeps { Keeps self.old self.new }
         ensures id { IfOk result (λ id. Composes self.old self.new cells.now f id) }
@@ -80,7 +80,7 @@ impl Store {
         cells: &[Id],
     ) -> Result<Id, Memory>
         requires live { IsLive self.old f }
-        requires over { IsOver self.old (length cells.now) f }
+        requires over { IsOverObligations self.old (length cells.now) f }
         requires cells { AllTruths self.old cells.now }
         requires right { IsRightFor self.old cells.now memo.old }
         ensures keeps { Keeps self.old self.new }

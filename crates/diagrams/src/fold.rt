@@ -1,10 +1,9 @@
 //! The least or greatest value over some variables.
-ghost use Rattle.std.specs.Prelude.{◌≡◌, ◌<◌, ◌≤◌, if◌then◌else◌, true, IfOk};
-ghost use Rattle.diagrams.specs.Eval.{eval};
+ghost use Rattle.std.specs.Prelude.{◌≤◌, IfOk};
 ghost use Rattle.diagrams.specs.Live.{IsLive, StandsAbove, Keeps};
 ghost use Rattle.diagrams.specs.Kept.{AllKept};
 ghost use Rattle.diagrams.specs.Work.{same_work, IsDone};
-ghost use Rattle.diagrams.specs.Turned.{Turns, IsTurned, same_id};
+ghost use Rattle.diagrams.specs.Transformed.{Transforms, IsTransformed, same_id};
 ghost use Rattle.diagrams.specs.Folded.{IsExtremum, IsExtreme, IsFold, IsJoined};
 
 use crate::combine::combined;
@@ -52,11 +51,11 @@ fn folded(
     requires live { IsLive store.old f }
     requires op { IsExtremum op }
     requires works { AllKept same_work (IsDone store.old) works.old }
-    requires right { AllKept same_id (IsTurned store.old (IsExtreme op from to)) memo.old }
+    requires right { AllKept same_id (IsTransformed store.old (IsExtreme op from to)) memo.old }
     ensures keeps { Keeps store.old store.new }
     ensures works { AllKept same_work (IsDone store.new) works.new }
-    ensures right { AllKept same_id (IsTurned store.new (IsExtreme op from to)) memo.new }
-    ensures id { IfOk result (λ id. Turns store.old store.new (IsExtreme op from to) f id) }
+    ensures right { AllKept same_id (IsTransformed store.new (IsExtreme op from to)) memo.new }
+    ensures id { IfOk result (λ id. Transforms store.old store.new (IsExtreme op from to) f id) }
 {
     match store.look(f) {
         Look::Terminal(_) => Ok(f),

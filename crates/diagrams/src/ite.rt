@@ -1,12 +1,11 @@
 //! The choice between two diagrams by a third.
-ghost use Rattle.std.specs.Prelude.{◌≡◌, ◌<◌, ◌≤◌, min, IfOk};
-ghost use Rattle.diagrams.specs.Eval.{limit};
+ghost use Rattle.std.specs.Prelude.{◌≡◌, min, IfOk};
 ghost use Rattle.diagrams.specs.Live.{IsLive, IsTruth, Keeps, Means};
 ghost use Rattle.diagrams.specs.Kept.{AllKept};
 ghost use Rattle.diagrams.specs.Work.{Gives, chosen_value, same_work, IsDone};
-ghost use Rattle.diagrams.specs.Parts.{var_of, ChoosesYes, ChoosesNo, ChoosesTest, IsTerminal};
+ghost use Rattle.diagrams.specs.Cofactors.{var_of, ChoosesYes, ChoosesNo, ChoosesTest, IsTerminal};
 
-use crate::combine::parts;
+use crate::cofactor::cofactors;
 use crate::memo::Memo;
 use crate::store::Store;
 use crate::top::{Id, Look};
@@ -25,26 +24,26 @@ fn earlier(var: u32, top: Look) -> u32
 }
 
 /// Which of its three diagrams a choice gives, where the tops tell.
-enum Short {
+enum TerminalCase {
     Yes,
     No,
     Test,
-    Open,
+    Neither,
 }
 
 /// Which of the three a choice gives.
-fn shortcut(test: Look, same: bool, yes: Look, no: Look) -> Short
-    ensures yes { result ≡ Short.Yes → ChoosesYes test same }
-    ensures no { result ≡ Short.No → ChoosesNo test }
-    ensures test { result ≡ Short.Test → ChoosesTest yes no }
-    ensures node { result ≡ Short.Open → IsTerminal test → ⊥ }
+fn terminal_case(test: Look, same: bool, yes: Look, no: Look) -> TerminalCase
+    ensures yes { result ≡ TerminalCase.Yes → ChoosesYes test same }
+    ensures no { result ≡ TerminalCase.No → ChoosesNo test }
+    ensures test { result ≡ TerminalCase.Test → ChoosesTest yes no }
+    ensures node { result ≡ TerminalCase.Neither → IsTerminal test → ⊥ }
 {
     match (test, yes, no) {
-        (Look::Terminal(1), _, _) => Short::Yes,
-        (Look::Terminal(_), _, _) => Short::No,
-        (_, Look::Terminal(1), Look::Terminal(0)) => Short::Test,
-        _ if same => Short::Yes,
-        _ => Short::Open,
+        (Look::Terminal(1), _, _) => TerminalCase::Yes,
+        (Look::Terminal(_), _, _) => TerminalCase::No,
+        (_, Look::Terminal(1), Look::Terminal(0)) => TerminalCase::Test,
+        _ if same => TerminalCase::Yes,
+        _ => TerminalCase::Neither,
     }
 }
 
@@ -68,11 +67,11 @@ pub(crate) fn chosen(
     let test_top = store.look(test);
     let yes_top = store.look(yes);
     let no_top = store.look(no);
-    match shortcut(test_top, yes == no, yes_top, no_top) {
-        Short::Yes => return Ok(yes),
-        Short::No => return Ok(no),
-        Short::Test => return Ok(test),
-        Short::Open => {}
+    match terminal_case(test_top, yes == no, yes_top, no_top) {
+        TerminalCase::Yes => return Ok(yes),
+        TerminalCase::No => return Ok(no),
+        TerminalCase::Test => return Ok(test),
+        TerminalCase::Neither => {}
     }
     if let Some(id) = memo.get(&work) {
         return Ok(id);
@@ -81,9 +80,9 @@ pub(crate) fn chosen(
         unreachable!()
     };
     let var = earlier(earlier(own, yes_top), no_top);
-    let (test_lo, test_hi) = parts(test, test_top, var);
-    let (yes_lo, yes_hi) = parts(yes, yes_top, var);
-    let (no_lo, no_hi) = parts(no, no_top, var);
+    let (test_lo, test_hi) = cofactors(test, test_top, var);
+    let (yes_lo, yes_hi) = cofactors(yes, yes_top, var);
+    let (no_lo, no_hi) = cofactors(no, no_top, var);
     let lo = chosen(store, memo, test_lo, yes_lo, no_lo)?;
     let hi = chosen(store, memo, test_hi, yes_hi, no_hi)?;
     let id = store.branch(var, lo, hi)?;

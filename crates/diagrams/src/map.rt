@@ -4,7 +4,7 @@ ghost use Rattle.diagrams.specs.Tree.{Assignment};
 ghost use Rattle.diagrams.specs.Eval.{eval};
 ghost use Rattle.diagrams.specs.Live.{IsLive, Keeps, Means};
 ghost use Rattle.diagrams.specs.Kept.{AllKept};
-ghost use Rattle.diagrams.specs.Turned.{Turns, IsTurned, same_id, IsItem, item_value};
+ghost use Rattle.diagrams.specs.Transformed.{Transforms, IsTransformed, same_id, IsTableItem, item_value};
 
 use crate::memo::Memo;
 use crate::store::Store;
@@ -15,10 +15,10 @@ use bes_io::Memory;
 fn mapped(store: &mut Store, memo: &mut Memo<Id>, f: Id, table: &[u32]) -> Result<Id, Memory>
     requires live { IsLive store.old f }
     requires fit { (a : Assignment) → eval store.old f a < length table.now }
-    requires right { AllKept same_id (IsTurned store.old (IsItem table.now)) memo.old }
+    requires right { AllKept same_id (IsTransformed store.old (IsTableItem table.now)) memo.old }
     ensures keeps { Keeps store.old store.new }
-    ensures right { AllKept same_id (IsTurned store.new (IsItem table.now)) memo.new }
-    ensures id { IfOk result (λ id. Turns store.old store.new (IsItem table.now) f id) }
+    ensures right { AllKept same_id (IsTransformed store.new (IsTableItem table.now)) memo.new }
+    ensures id { IfOk result (λ id. Transforms store.old store.new (IsTableItem table.now) f id) }
 {
     match store.look(f) {
         Look::Terminal(terminal) => store.made(Look::Terminal(table[terminal as usize])),
@@ -45,5 +45,22 @@ impl Store {
     {
         let mut memo = Memo::new(self.allocator());
         mapped(self, &mut memo, f, table)
+    }
+
+    /// The same as `map_terminals`, with what earlier calls with this table found.
+    pub fn map_terminals_with(
+        &mut self,
+        memo: &mut Memo<Id>,
+        f: Id,
+        table: &[u32],
+    ) -> Result<Id, Memory>
+        requires live { IsLive self.old f }
+        requires fit { (a : Assignment) → eval self.old f a < length table.now }
+        requires right { AllKept same_id (IsTransformed self.old (IsTableItem table.now)) memo.old }
+        ensures keeps { Keeps self.old self.new }
+        ensures right { AllKept same_id (IsTransformed self.new (IsTableItem table.now)) memo.new }
+        ensures id { IfOk result (λ id. Transforms self.old self.new (IsTableItem table.now) f id) }
+    {
+        mapped(self, memo, f, table)
     }
 }

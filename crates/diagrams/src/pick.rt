@@ -2,9 +2,9 @@
 ghost use Rattle.std.specs.Prelude.{◌≡◌, ◌<◌, ◌≤◌, ◌-◌, ◌+◌, IfOk};
 ghost use Rattle.diagrams.specs.Tree.{AllVars};
 ghost use Rattle.diagrams.specs.Eval.{tree, DependsOn};
-ghost use Rattle.diagrams.specs.Live.{IsLive, IsTruth, StandsAbove, Keeps};
+ghost use Rattle.diagrams.specs.Live.{IsLive, IsTruth, Keeps};
 ghost use Rattle.diagrams.specs.Kept.{AllKept};
-ghost use Rattle.diagrams.specs.Turned.{Turns, IsTurned, same_id};
+ghost use Rattle.diagrams.specs.Transformed.{Transforms, IsTransformed, same_id};
 ghost use Rattle.diagrams.specs.Picked.{first_number, IsLeastNumber, IsPick};
 
 use crate::memo::Memo;
@@ -36,10 +36,10 @@ fn picked(store: &mut Store, memo: &mut Memo<Id>, f: Id, from: u32, to: u32) -> 
     requires below { AllVars (λ v. v < to) (tree store.old f) }
     requires range { from ≤ to }
     requires few { to - from ≤ 32 }
-    requires right { AllKept same_id (IsTurned store.old (IsLeastNumber from to)) memo.old }
+    requires right { AllKept same_id (IsTransformed store.old (IsLeastNumber from to)) memo.old }
     ensures keeps { Keeps store.old store.new }
-    ensures right { AllKept same_id (IsTurned store.new (IsLeastNumber from to)) memo.new }
-    ensures id { IfOk result (λ id. Turns store.old store.new (IsLeastNumber from to) f id) }
+    ensures right { AllKept same_id (IsTransformed store.new (IsLeastNumber from to)) memo.new }
+    ensures id { IfOk result (λ id. Transforms store.old store.new (IsLeastNumber from to) f id) }
 {
     match store.look(f) {
         Look::Terminal(_) => store.made(Look::Terminal(0)),
@@ -71,7 +71,7 @@ impl Store {
         ensures keeps { Keeps self.old self.new }
         ensures id { IfOk result (λ id. IsPick self.old self.new from to f id) }
     {
-        let _ = self.look(f);
+        prove!(self.props() <= 32);
         let mut memo = Memo::new(self.allocator());
         picked(self, &mut memo, f, from, to)
     }

@@ -1,10 +1,9 @@
 //! A store of diagrams.
-ghost use Rattle.std.specs.Prelude.{◌≡◌, ℕ, ◌<◌, ◌≤◌, ◌^◌, ◌==◌, if◌then◌else◌, IfOk, OnOk, OnErr, Some};
-ghost use Rattle.diagrams.specs.Tree.{Assignment};
+ghost use Rattle.std.specs.Prelude.{◌≡◌, ◌<◌, ◌≤◌, ◌^◌, IfOk, Some};
 ghost use Rattle.diagrams.specs.Branch.{IsBranch, IsFit, split_value};
-ghost use Rattle.diagrams.specs.Eval.{letter_truth, top_of, eval, DependsOn};
-ghost use Rattle.diagrams.specs.Shown.{Shows};
-ghost use Rattle.diagrams.specs.Live.{TellsApart, IsLive, IsCanonical, Keeps, StandsAbove, Means};
+ghost use Rattle.diagrams.specs.Eval.{letter_truth, literal_value, top_of, eval, DependsOn};
+ghost use Rattle.diagrams.specs.Expansion.{ExpandsAs};
+ghost use Rattle.diagrams.specs.Live.{HasCanonicalIds, IsLive, IsCanonical, Keeps, StandsAbove, Means};
 
 use crate::top::{Id, Look};
 use bes_io::Memory;
@@ -34,11 +33,11 @@ impl Model for Store {
 
     ghost Value = { Diagrams };
 
-    ghost use Rattle.diagrams.specs.Inside.{store_of, IsKept};
+    ghost use Rattle.diagrams.specs.Inside.{store_of, HasUniqueTable};
 
     ghost view = { store_of };
 
-    ghost invariant = { IsKept };
+    ghost invariant = { HasUniqueTable };
 }
 
 impl Store {
@@ -61,7 +60,8 @@ impl Store {
     pub fn props(&self) -> u32
         ensures number { result ≡ self.now.props }
         ensures few { result ≤ 32 }
-        ensures distinct { TellsApart self.now }
+        ensures distinct { HasCanonicalIds self.now }
+        ensures canonical { IsCanonical self.now }
     {
         self.props
     }
@@ -88,8 +88,18 @@ impl Store {
         ensures keeps { Keeps self.old self.new }
         ensures id { IfOk result (λ id. Means self.new id (split_value self.old var lo hi)) }
     {
-        let _ = self.look(lo);
+        prove!(self.props() <= 32);
         self.branch(var, lo, hi)
+    }
+
+    /// The diagram that is 1 where a variable is true, and else 0.
+    pub fn literal(&mut self, var: u32) -> Result<Id, Memory>
+        ensures keeps { Keeps self.old self.new }
+        ensures id { IfOk result (λ id. Means self.new id (literal_value var)) }
+    {
+        let lo = self.terminal(0)?;
+        let hi = self.terminal(1)?;
+        self.node(var, lo, hi)
     }
 
     /// The terminal at a letter.
@@ -114,7 +124,7 @@ impl Store {
     pub fn look(&self, f: Id) -> Look
         requires { IsLive self.now f }
         ensures top { top_of self.now f ≡ Some result }
-        ensures shows { Shows self.now f result }
+        ensures expands { ExpandsAs self.now f result }
         ensures canonical { IsCanonical self.now }
     {
         self.nodes[f.0]
@@ -147,7 +157,7 @@ impl Store {
         ensures keeps { Keeps self.old self.new }
         ensures id { IfOk result (λ id. IsBranch self.old self.new var lo hi id) }
     {
-        let _ = self.look(lo);
+        prove!(self.props() <= 32);
         if lo == hi {
             return Ok(lo);
         }

@@ -11,8 +11,8 @@ use Rattle.automata.specs.Moves.{Moves, mark_after, IsClosed}
 use Rattle.automata.specs.Table.{Table, size_of, mark_of, moves_of}
 use Rattle.automata.proofs.Words.{over-nil}
 use Rattle.diagrams.specs.declared.top.Id.{Id}
-use Rattle.diagrams.specs.Eval.{Diagrams}
-use Rattle.minimise.specs.Divisions.{id_at, IsDivision}
+use Rattle.diagrams.specs.Eval.{Diagrams, id_at}
+use Rattle.minimise.specs.Divisions.{IsDivision}
 use Rattle.minimise.specs.Rounds.{IsDivided}
 use Rattle.distinguish.specs.Telling.{IsLeastDistinguishing, IsLeastForSome}
 use Rattle.distinguish.specs.Columns.{IsColumn}
@@ -46,6 +46,9 @@ module _ (s : Diagrams) (t : Table) (blocks : List ℕ) (c : IsClosed s.props (m
   one_mark : (i j : ℕ) → i < size_of t → j < size_of t → slice_index blocks i ≡ slice_index blocks j → mark_of t i ≡ mark_of t j
   one_mark i j h k e = sym (b.mark i h) ∙ ap (mark_of t) e ∙ b.mark j k
 
+  own : (at : ℕ) → at < size_of t → slice_index blocks (slice_index blocks at) ≡ slice_index blocks at
+  own at h = let low = b.low at h in b.one (slice_index blocks at) at (omega (arith, low, h)) h (b.mark at h)
+
   divided : IsDivided s.props (moves_of s t) 1 (slice_index blocks)
   divided = record {
     same = λ i j h k e w o l. short i j h k e w l;
@@ -65,6 +68,7 @@ module _ (s : Diagrams) (t : Table) (blocks : List ℕ) (c : IsClosed s.props (m
     some = omega arith;
     size = b.size;
     low = b.low;
+    own = own;
     divided = divided;
     order = λ i j d h k. absurd (omega (arith, k));
     needed = All-nil (IsLeastForSome s.props (moves_of s t));
@@ -83,6 +87,7 @@ module _ (s : Diagrams) (t : Table) (blocks : List ℕ) (c : IsClosed s.props (m
     some = omega arith;
     size = b.size;
     low = b.low;
+    own = own;
     divided = divided;
     order = λ i j d h k. absurd (omega (arith, h, k));
     needed = All-cons (IsLeastForSome s.props (moves_of s t)) [] [] needed (All-nil (IsLeastForSome s.props (moves_of s t)));

@@ -1,5 +1,5 @@
 -- Columns of marks, and the first that tells two locations apart.
-use Rattle.std.proofs.Common.{◌≡◌, ◌<◌, ◌+◌, ◌++◌, ℕ, zero, suc, List, [], ◌∷◌, Some, refl, sym, ◌∙◌, ap, arith, inl, inr, length, length-append}
+use Rattle.std.proofs.Common.{◌≡◌, ◌<◌, ◌+◌, ◌++◌, ℕ, zero, suc, List, [], ◌∷◌, Some, sym, ◌∙◌, ap, arith, inl, inr, length, length-append}
 use Rattle.std.specs.Prelude.{slice_get, slice_index, slice_index_or}
 use Rattle.forms.specs.Word.{Word}
 use Rattle.diagrams.specs.Eval.{Diagrams, letter_truth}
@@ -16,10 +16,6 @@ pub item_read : {A : Type 0} → (xs : List A) (i : ℕ) (x d : A) → slice_get
 item_read [] i x d e = absurd (cc)
 item_read (y ∷ xs) zero x d e = cc
 item_read (y ∷ xs) (suc i) x d e = item_read xs i x d e
-
--- no words
-pub columns_none : (m : Moves) → AreColumns m [] []
-columns_none m = record { size = refl; column = λ k h. absurd (omega (arith, h)) }
 
 -- one more word
 pub columns_more : (m : Moves) (words : List Word) (columns : List (List ℕ)) (w : Word) (column : List ℕ) → AreColumns m words columns → IsColumn m w column

@@ -12,67 +12,32 @@ use Rattle.diagrams.specs.declared.top.Look.TheVariants.{Terminal, Node}
 use Rattle.diagrams.specs.Tree.{put}
 use Rattle.diagrams.specs.Eval.{Diagrams, top_of, limit, eval, letter_truth}
 use Rattle.diagrams.specs.Live.{IsCanonical}
-use Rattle.diagrams.specs.Parts.{var_of, IsLeast, IsTerminal}
+use Rattle.diagrams.specs.Cofactors.{var_of, IsLeastVariable, IsTerminal}
 use Rattle.diagrams.proofs.Canon.{put-alike}
 use Rattle.diagrams.proofs.Meaning.{live-above, eval-terminal, tree-node, same_id_by_value}
-use Rattle.diagrams.proofs.Parts.{IsParts, low-value, high-value}
-use Rattle.diagrams.proofs.Shown.{depends_from_stands, vars_below}
+use Rattle.diagrams.proofs.CofactorLemmas.{AreCofactors, low-value, high-value}
+use Rattle.diagrams.proofs.Expansion.{depends_from_stands, vars_below}
+use Rattle.diagrams.proofs.LetterBits.{own_low, own_high, later_same}
 use Rattle.distinguish.specs.Differences.{IsOverLetters, IsLeastDifference}
-
--- the highest bit of a number below a power of two
-bit_low : (n l : ℕ) → l < 2 ^ n → bit_at l n ≡ 0
-bit_low n l h = rw (div-eq_of_lt {n = l} {m = 2 ^ n} h) refl
-
-bit_high : (n l : ℕ) → l < 2 ^ n → bit_at (2 ^ n + l) n ≡ 1
-bit_high n l h =
-    let one : 2 ^ n + l ≡ 1 * 2 ^ n + l = omega arith in
-    rw (one, mul-add-div_right {m = 2 ^ n} (pow_pos n) 1 l, div-eq_of_lt {n = l} {m = 2 ^ n} h) refl
-
--- the other bits do not change with the highest
-bit_rest : (n l j : ℕ) → j < n → bit_at (2 ^ n + l) j ≡ bit_at l j
-bit_rest n l j h =
-    let k = n - 1 - j in
-    let e : n ≡ suc k + j = omega arith in
-    let power : 2 ^ n ≡ 2 ^ k * 2 * 2 ^ j = ap (λ m. 2 ^ m) e ∙ pow-add 2 (suc k) j ∙ ap (λ m. m * 2 ^ j) (pow-suc 2 k) in
-    rw (power, mul-add-div_right {m = 2 ^ j} (pow_pos j) (2 ^ k * 2) l) (mul-add-mod_self_right (2 ^ k) 2 (l / 2 ^ j))
-
--- proposition v of a letter, by whether the letter is below its weight
-own_low : (to n v l : ℕ) → v + suc n ≡ to → l < 2 ^ n → letter_truth to l v ≡ false
-own_low to n v l e h =
-    let t : nat_lt v to ≡ true = grind (arith, nat_tests) in
-    let k : to - 1 - v ≡ n = omega arith in
-    rw (t, k, bit_low n l h) refl
-
-own_high : (to n v l : ℕ) → v + suc n ≡ to → l < 2 ^ n → letter_truth to (2 ^ n + l) v ≡ true
-own_high to n v l e h =
-    let t : nat_lt v to ≡ true = grind (arith, nat_tests) in
-    let k : to - 1 - v ≡ n = omega arith in
-    rw (t, k, bit_high n l h) refl
-
-later_same : (to n v l w : ℕ) → v + suc n ≡ to → v < w → letter_truth to (2 ^ n + l) w ≡ letter_truth to l w
-later_same to n v l w e h =
-    elim (cases_lt w to) [
-      | inl k ↦ let j : to - 1 - w < n = omega arith in rw (bit_rest n l (to - 1 - w) j) refl
-      | inr k ↦ let f : nat_lt w to ≡ false = grind (arith, nat_tests) in rw f refl
-    ]
 
 pow_le : (i j : ℕ) → i ≤ j → 2 ^ i ≤ 2 ^ j
 pow_le i j h = elim (cases_eq i j) [ inl e ↦ rw (e) (omega arith) | inr n ↦ let l = pow_below i j (omega (arith, h, n)) in omega (arith, l) ]
 
--- a number below the weight of proposition v, and one with that weight
+-- a number below the weight of proposition v is a letter with that weight added
 pub high_less : (p n v a : ℕ) → v + suc n ≡ p → a < 2 ^ n → 2 ^ n + a < 2 ^ p
 high_less p n v a e h = let double = pow-suc 2 n in let up = pow_le (suc n) p (omega (arith, e)) in omega (arith, double, up, h)
 
+-- and without it
 pub low_less : (p n v a : ℕ) → v + suc n ≡ p → a < 2 ^ n → a < 2 ^ p
 low_less p n v a e h = let up = pow_le n p (omega (arith, e)) in omega (arith, up, h)
 
 -- a diagram at a letter whose proposition v is false, and at one whose is true
-low_letter : (s : Diagrams) (n v l : ℕ) (f lo hi : Id) → v + suc n ≡ s.props → IsParts s v f lo hi → l < 2 ^ n
+low_letter : (s : Diagrams) (n v l : ℕ) (f lo hi : Id) → v + suc n ≡ s.props → AreCofactors s v f lo hi → l < 2 ^ n
     → eval s f (letter_truth s.props l) ≡ eval s lo (letter_truth s.props l)
 low_letter s n v l f lo hi e p h =
     p.splits (letter_truth s.props l) ∙ ap (λ b. if b then eval s hi (letter_truth s.props l) else eval s lo (letter_truth s.props l)) (own_low s.props n v l e h)
 
-high_letter : (s : Diagrams) → IsCanonical s → (n v l : ℕ) (f lo hi : Id) → v + suc n ≡ s.props → IsParts s v f lo hi → l < 2 ^ n
+high_letter : (s : Diagrams) → IsCanonical s → (n v l : ℕ) (f lo hi : Id) → v + suc n ≡ s.props → AreCofactors s v f lo hi → l < 2 ^ n
     → eval s f (letter_truth s.props (2 ^ n + l)) ≡ eval s hi (letter_truth s.props l)
 high_letter s c n v l f lo hi e p h =
     p.splits (letter_truth s.props (2 ^ n + l))
@@ -80,7 +45,7 @@ high_letter s c n v l f lo hi e p h =
     ∙ depends_from_stands s c v hi p.hi_above (letter_truth s.props (2 ^ n + l)) (letter_truth s.props l) (λ w k. later_same s.props n v l w e k)
 
 -- the parts where v is false differ first
-pub difference_low : (s : Diagrams) (n v a : ℕ) (f g fl fh gl gh : Id) → v + suc n ≡ s.props → IsParts s v f fl fh → IsParts s v g gl gh → a < 2 ^ n
+pub difference_low : (s : Diagrams) (n v a : ℕ) (f g fl fh gl gh : Id) → v + suc n ≡ s.props → AreCofactors s v f fl fh → AreCofactors s v g gl gh → a < 2 ^ n
     → IsLeastDifference s fl gl a → IsLeastDifference s f g a
 difference_low s n v a f g fl fh gl gh e p q h d = record {
   within = d.within;
@@ -89,7 +54,7 @@ difference_low s n v a f g fl fh gl gh e p q h d = record {
 }
 
 -- the parts where v is false are one
-pub difference_high : (s : Diagrams) → IsCanonical s → (n v a : ℕ) (f g fl fh gl gh : Id) → v + suc n ≡ s.props → IsParts s v f fl fh → IsParts s v g gl gh → a < 2 ^ n
+pub difference_high : (s : Diagrams) → IsCanonical s → (n v a : ℕ) (f g fl fh gl gh : Id) → v + suc n ≡ s.props → AreCofactors s v f fl fh → AreCofactors s v g gl gh → a < 2 ^ n
     → fl ≡ gl → IsLeastDifference s fh gh a → IsLeastDifference s f g (2 ^ n + a)
 difference_high s c n v a f g fl fh gl gh e p q h same d = record {
   within = high_less s.props n v a e h;
@@ -121,15 +86,16 @@ difference_none s c f g (Terminal x) (Terminal y) ef eg t n = record {
 difference_none s c f g (Terminal x) (Node v lo hi) ef eg t n = absurd (t.1)
 difference_none s c f g (Node v lo hi) gt ef eg t n = absurd (t.0)
 
--- the parts of a diagram over propositions are such diagrams
-pub low_over : (s : Diagrams) → IsCanonical s → (v : ℕ) (f lo hi : Id) → IsParts s v f lo hi → IsOverLetters s f → IsOverLetters s lo
+-- the part of a diagram over propositions where v is false is such a diagram
+pub low_over : (s : Diagrams) → IsCanonical s → (v : ℕ) (f lo hi : Id) → AreCofactors s v f lo hi → IsOverLetters s f → IsOverLetters s lo
 low_over s c v f lo hi p o = record {
   live = live-above v _ p.lo_above;
   letters = λ a b same.
       sym (low-value s c v f lo hi p a) ∙ o.letters (put a v false) (put b v false) (λ w h. put-alike a b v false w (same w h)) ∙ low-value s c v f lo hi p b;
 }
 
-pub high_over : (s : Diagrams) → IsCanonical s → (v : ℕ) (f lo hi : Id) → IsParts s v f lo hi → IsOverLetters s f → IsOverLetters s hi
+-- and the part where v is true
+pub high_over : (s : Diagrams) → IsCanonical s → (v : ℕ) (f lo hi : Id) → AreCofactors s v f lo hi → IsOverLetters s f → IsOverLetters s hi
 high_over s c v f lo hi p o = record {
   live = live-above v _ p.hi_above;
   letters = λ a b same.
@@ -144,7 +110,7 @@ own_small s c f (Node w lo hi) v e o h q =
 
 -- the least variable of two diagrams over propositions is a proposition
 pub least_small : (s : Diagrams) → IsCanonical s → (f g : Id) (ft gt : Look) (v : ℕ) → top_of s f ≡ Some ft → top_of s g ≡ Some gt → IsOverLetters s f → IsOverLetters s g
-    → IsLeast ft gt v → v < s.props
+    → IsLeastVariable ft gt v → v < s.props
 least_small s c f g ft gt v ef eg o q l =
     elim (l.one) [
       | inl e ↦ own_small s c f ft v ef o l.small e
@@ -156,7 +122,7 @@ pub below_weight : (p n v w a : ℕ) → v + suc n ≡ p → w < v → a < 2 ^ s
 below_weight p n v w a e h l = let up = pow_le (suc n) (p - 1 - w) (omega (arith, e, h)) in omega (arith, up, l)
 
 -- different parts where v is true, if those where it is false are one
-pub high_apart : (s : Diagrams) → IsCanonical s → (v : ℕ) (f g fl fh gl gh : Id) → IsParts s v f fl fh → IsParts s v g gl gh → IsOverLetters s f → IsOverLetters s g → f ≢ g → fl ≡ gl → fh ≢ gh
+pub high_apart : (s : Diagrams) → IsCanonical s → (v : ℕ) (f g fl fh gl gh : Id) → AreCofactors s v f fl fh → AreCofactors s v g gl gh → IsOverLetters s f → IsOverLetters s g → f ≢ g → fl ≡ gl → fh ≢ gh
 high_apart s c v f g fl fh gl gh p q o u n e h =
     n (same_id_by_value s c f g o.live u.live (λ a.
     p.splits a ∙ (λ d. if a v then eval s (h d) a else eval s (e d) a) ∙ sym (q.splits a)))

@@ -8,4 +8,5 @@ pub mod WordLemmas
 pub mod RoundLemmas
 pub mod BeginLemmas
 pub mod StepLemmas
+pub mod TreeLemmas
 pub mod NextLemmas

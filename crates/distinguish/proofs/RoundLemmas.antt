@@ -1,5 +1,5 @@
 -- A round of division, with the words that it finds.
-use Rattle.std.proofs.Common.{◌≡◌, ◌≢◌, ◌<◌, ◌≤◌, ◌++◌, ◌⊎◌, ℕ, suc, List, [], ◌∷◌, sym, ◌∙◌, arith, inl, inr, length, map, get_or, true, All}
+use Rattle.std.proofs.Common.{◌≡◌, ◌≢◌, ◌<◌, ◌≤◌, ◌++◌, ◌⊎◌, ℕ, suc, Bool, List, [], ◌∷◌, sym, ◌∙◌, arith, inl, inr, length, map, get_or, true, All}
 use Rattle.std.specs.declared.cmp.Ordering.TheVariants.{Less}
 use Rattle.std.specs.Prelude.{AllPairs, Any, slice_index}
 use Rattle.std.specs.List.Sorted.{IsStrictlySortedBy}
@@ -15,10 +15,11 @@ use Rattle.automata.proofs.Words.{over-head, over-tail}
 use Rattle.minimise.specs.Rounds.{IsDivided}
 use Rattle.minimise.proofs.RoundLemmas.{IsRound, round_divides, round_is_finer}
 use Rattle.distinguish.specs.declared.steps.Step.{Step}
+use Rattle.distinguish.specs.contracts.steps.StepPartialEq.TheImpl as step_eq
 use Rattle.distinguish.specs.Telling.{IsLeastDistinguishing, IsLeastForSome, IsTellingList}
 use Rattle.distinguish.specs.Columns.{AreColumns}
 use Rattle.distinguish.specs.Rounds.{IsDividedByWords, IsStable}
-use Rattle.distinguish.specs.Steps.{step_order, same_step, CanFollow, word_of, IsStepFor, IsStep, AreSteps}
+use Rattle.distinguish.specs.Steps.{step_order, CanFollow, word_of, IsStepFor, IsStep, AreSteps}
 use Rattle.distinguish.proofs.ListLemmas.{all_pairs_append, all_pairs_map, any_left, any_right, any_map}
 use Rattle.distinguish.proofs.Transport.{any_weaker}
 use Rattle.distinguish.proofs.WordLemmas.{least_swap, least_moves, no_shorter}
@@ -45,6 +46,7 @@ module _ (p : ℕ) (m : Moves) (blocks : List ℕ) (words : List Word) (columns 
       let high = t.short step.rest [] s.rest in
       omega (arith, low, high)
 
+  -- a step has a letter, and one of the words as its rest
   pub step_letter : (step : Step) → IsStep p m blocks words step → CanFollow p (length words) step
   step_letter step s = record { letter = over-head p step.letter (get_or words step.rest []) s.tells.least.over; rest = s.tells.rest }
 
@@ -73,7 +75,7 @@ module _ (p : ℕ) (m : Moves) (blocks : List ℕ) (words : List Word) (columns 
   module _ (next : List ℕ) (steps : List Step) (r : IsRound p m (slice_index blocks) (slice_index next))
       (size : length next ≡ m.size) (low : (at : ℕ) → at < m.size → slice_index next at ≤ at)
       (fixed : (at : ℕ) → at < m.size → slice_index next (slice_index next at) ≡ slice_index next at)
-      (a : AreSteps p m blocks next words m.size 0 steps) (sorted : IsStrictlySortedBy step_order steps) where
+      (a : AreSteps p m blocks next words m.size steps) (sorted : IsStrictlySortedBy step_order steps) where
     divided-next : IsDivided p m (suc t.letters) (slice_index next)
     divided-next = round_divides p m t.letters (slice_index blocks) (slice_index next) t.closed t.divided r
 
@@ -112,10 +114,10 @@ module _ (p : ℕ) (m : Moves) (blocks : List ℕ) (words : List Word) (columns 
           | inl q ↦ absurd (n q)
           | inr (inl q) ↦
               any_weaker (IsStepFor p m words x y) (λ s. IsLeastDistinguishing p m x y (word_of words s) × (length (word_of words s) ≡ t.letters))
-              (λ s f. (f.least, step_length x y s h k e f)) steps (a.whole x y q k (inl k) fx fy e)
+              (λ s f. (f.least, step_length x y s h k e f)) steps (a.whole x y q k fx fy e)
           | inr (inr q) ↦
               any_weaker (IsStepFor p m words y x) (λ s. IsLeastDistinguishing p m x y (word_of words s) × (length (word_of words s) ≡ t.letters))
-              (λ s f. (least_swap p m y x (word_of words s) f.least, step_length y x s k h (sym e) f)) steps (a.whole y x q h (inl h) fy fx (sym e))
+              (λ s f. (least_swap p m y x (word_of words s) f.least, step_length y x s k h (sym e) f)) steps (a.whole y x q h fy fx (sym e))
         ]
 
     -- the step of two locations that the round divides
@@ -136,6 +138,7 @@ module _ (p : ℕ) (m : Moves) (blocks : List ℕ) (words : List Word) (columns 
         least_swap p m j i w (least_moves p m (suc t.letters) j y i w (divided-next.same j y k hy (sym (fixed j k))) short (least_swap p m i y w one)))
         steps (firsts-step x y hx hy n (fixed i h) (fixed j k) same)
 
+    -- the round divides by the words so far and those of the steps
     pub round_more : (marks : List (List ℕ)) → AreColumns m (words ++ map (word_of words) steps) marks → IsDividedByWords p m next (words ++ map (word_of words) steps) marks
     round_more marks c = record {
       closed = t.closed;
@@ -143,6 +146,7 @@ module _ (p : ℕ) (m : Moves) (blocks : List ℕ) (words : List Word) (columns 
       some = omega arith;
       size = size;
       low = low;
+      own = fixed;
       divided = divided-next;
       order = all-order;
       needed = all-needed;
@@ -178,6 +182,10 @@ module _ (p : ℕ) (m : Moves) (blocks : List ℕ) (words : List Word) (columns 
     needed = t.needed;
     whole = λ i j h k n. let d = apart i j h k n in t.whole i j h k (λ e. d.differ (stable_agree s i j h k e d.word d.over));
   }
+
+-- whether two steps are the same
+abbrev pub same_step : Step → Step → Bool
+same_step = (step_eq.ghosts).eq
 
 -- steps that are the same are equal
 pub step_same : (x y : Step) → same_step x y ≡ true → x ≡ y

@@ -1,20 +1,21 @@
--- The steps of pairs of new blocks, one pair after another.
-use Rattle.std.proofs.Common.{◌≡◌, ◌≢◌, ◌<◌, ◌≤◌, ◌+◌, ◌++◌, ◌⊎◌, ℕ, List, [], ◌∷◌, refl, sym, ◌∙◌, ap, subst, arith, inl, inr, length, All}
+-- The steps of pairs of new blocks.
+use Rattle.std.proofs.Common.{◌≡◌, ◌≢◌, ◌<◌, ◌≤◌, ℕ, List, [], ◌∷◌, sym, ◌∙◌, ap, arith, inl, inr, length, All}
 use Rattle.std.specs.Prelude.{Contains, slice_index}
 use Rattle.std.proofs.lemmas.Bool.{cases_eq}
-use Rattle.std.proofs.lemmas.List.Elements.{All-nil, All-push, All-contains, All-contains_itself, All-from_get_or}
-use Rattle.forms.specs.Word.{Word}
+use Rattle.std.proofs.lemmas.List.Elements.{All-contains, All-contains_itself, All-from_get_or}
+use Rattle.forms.specs.Word.{Word, IsOver}
 use Rattle.diagrams.specs.declared.top.Id.{Id}
-use Rattle.diagrams.specs.Eval.{Diagrams, eval, letter_truth}
-use Rattle.automata.specs.Moves.{Moves}
+use Rattle.diagrams.specs.Eval.{Diagrams, eval, letter_truth, id_at}
+use Rattle.automata.specs.Moves.{Moves, mark_after}
 use Rattle.automata.specs.Table.{Table, size_of, mark_of, Fits, next_of, moves_of}
+use Rattle.automata.proofs.Words.{over-tail}
 use Rattle.distinguish.specs.declared.steps.Step.{Step}
 use Rattle.distinguish.specs.Differences.{IsOverLetters, IsLeastDifference}
-use Rattle.minimise.specs.Divisions.{id_at, AreBlockRows, IsDivision}
+use Rattle.minimise.specs.Divisions.{AreBlockRows, HaveOneKey, IsDivision}
 use Rattle.distinguish.specs.Columns.{mark_in}
 use Rattle.distinguish.specs.Rounds.{IsDividedByWords}
-use Rattle.distinguish.specs.Steps.{IsStepFor, IsStep, IsEarlier, AreSteps}
-use Rattle.distinguish.proofs.ListLemmas.{any_left, any_right, any_moves}
+use Rattle.distinguish.specs.Steps.{IsStepFor, IsStep, AreSteps}
+use Rattle.distinguish.proofs.ListLemmas.{any_moves}
 use Rattle.distinguish.proofs.WordLemmas.{distinguishing_steps, first_is_least}
 
 module _ (s : Diagrams) (t : Table) (blocks : List ℕ) (words : List Word) (columns : List (List ℕ)) (rows : List Id) (f : Fits s t)
@@ -65,77 +66,33 @@ module _ (s : Diagrams) (t : Table) (blocks : List ℕ) (words : List Word) (col
       let mark : mark_of t x ≡ mark_of t y = g.divided.same x y h k e [] (λ i z l. absurd (omega (arith, l))) g.some in
       n (sym fx ∙ d.one x y h k (mark, q) ∙ fy)
 
--- no pair at all
-pub steps_none : (p : ℕ) (m : Moves) (blocks next : List ℕ) (words : List Word) (steps : List Step) → steps ≡ [] → AreSteps p m blocks next words 0 0 steps
-steps_none p m blocks next words steps e = rw (e) (record {
-  right = All-nil (IsStep p m blocks words);
-  whole = λ x y h k q fx fy z. elim q [ inl l ↦ absurd (omega (arith, l)) | inr l ↦ absurd (omega (arith, l.1)) ];
-})
-
-module _ (p : ℕ) (m : Moves) (blocks next : List ℕ) (words : List Word) where
-  -- one more pair, that has a step
-  pub steps_push : (at other : ℕ) (steps : List Step) (step : Step) → other < at → at < m.size → slice_index blocks other ≡ slice_index blocks at
-      → IsStepFor p m words other at step → AreSteps p m blocks next words at other steps → AreSteps p m blocks next words at (other + 1) (steps ++ step ∷ [])
-  steps_push at other steps step h k e f a = record {
-    right = All-push (IsStep p m blocks words) steps step a.right
-        (record { one = other; other = at; one_within = omega (arith, h, k); other_within = k; same = e; tells = f });
-    whole = λ x y l n q fx fy z. elim (earlier-cases x y q) [
-      | inl w ↦ any_left (IsStepFor p m words x y) steps (step ∷ []) (a.whole x y l n w fx fy z)
-      | inr w ↦
-          any_right (IsStepFor p m words x y) steps (step ∷ [])
-          (0, step, omega arith, refl, subst (λ v. IsStepFor p m words x v step) (sym w.1) (subst (λ v. IsStepFor p m words v at step) (sym w.0) f))
-    ];
-  }
+  -- locations with one mark and one row were in one block
+  one_block : (i j : ℕ) → i < size_of t → j < size_of t → HaveOneKey t rows i j → slice_index blocks i ≡ slice_index blocks j
+  one_block i j h k e =
+      elim (cases_eq (slice_index blocks i) (slice_index blocks j)) [
+        | inl q ↦ q
+        | inr n ↦ let z = g.divided.apart i j h k n in absurd (z.differ (agree z.word z.over z.short))
+      ]
     where
-      earlier-cases : (x y : ℕ) → IsEarlier at (other + 1) x y → IsEarlier at other x y ⊎ ((x ≡ other) × (y ≡ at))
-      earlier-cases x y (inl q) = inl (inl q)
-      earlier-cases x y (inr q) = elim (cases_eq x other) [ inl e ↦ inr (e, q.0) | inr n ↦ inl (inr (q.0, omega (arith, q.1, n))) ]
+      agree : (w : Word) → IsOver s.props w → length w < g.letters → mark_after (moves_of s t) i w ≡ mark_after (moves_of s t) j w
+      agree [] o l = e.0
+      agree (a ∷ w) o l =
+          g.divided.same (next_of s t i a) (next_of s t j a) (target-within i a h) (target-within j a k)
+          (sym (row-value i a h) ∙ ap (λ z. eval s z (letter_truth s.props a)) e.1 ∙ row-value j a k) w (over-tail s.props a w o) (omega (arith, l))
 
-  -- one more pair, that needs none
-  pub steps_skip : (at other : ℕ) (steps : List Step) → (slice_index next other ≡ other → slice_index blocks other ≡ slice_index blocks at → ⊥)
-      → AreSteps p m blocks next words at other steps → AreSteps p m blocks next words at (other + 1) steps
-  steps_skip at other steps none a = record {
-    right = a.right;
-    whole = λ x y l n q fx fy z. elim q [
-      | inl w ↦ a.whole x y l n (inl w) fx fy z
-      | inr w ↦ elim (cases_eq x other) [
-        | inl e ↦ absurd (none (ap (slice_index next) (sym e) ∙ fx ∙ e) (ap (slice_index blocks) (sym e) ∙ z ∙ ap (slice_index blocks) w.0))
-        | inr d ↦ a.whole x y l n (inr (w.0, omega (arith, w.1, d))) fx fy z
-      ]
-    ];
-  }
+  -- an old block's name is that of a new one too
+  pub own_kept : (next : List ℕ) → IsDivision t rows next → (at : ℕ) → at < size_of t → slice_index blocks at ≡ at → slice_index next at ≡ at
+  own_kept next d at h own =
+      let low = d.low at h in
+      let within : slice_index next at < size_of t = omega (arith, low, h) in
+      let same = one_block (slice_index next at) at within h (d.key at h) in
+      let old = g.low (slice_index next at) within in
+      omega (arith, low, same, own, old)
 
-  -- all pairs of one location
-  pub steps_after : (at : ℕ) (steps : List Step) → AreSteps p m blocks next words at at steps → AreSteps p m blocks next words (at + 1) 0 steps
-  steps_after at steps a = record {
-    right = a.right;
-    whole = λ x y l n q fx fy z. elim q [
-      | inl w ↦ elim (cases_eq y at) [
-        | inl e ↦ a.whole x y l n (inr (e, omega (arith, l, e))) fx fy z
-        | inr d ↦ a.whole x y l n (inl (omega (arith, w, d))) fx fy z
-      ]
-      | inr w ↦ absurd (omega (arith, w.1))
-    ];
-  }
-
-  -- a location that is the first of no new block, or was the first of its old one
-  pub steps_past : (at : ℕ) (steps : List Step) → ((x : ℕ) → x < at → slice_index next at ≡ at → slice_index blocks x ≡ slice_index blocks at → ⊥)
-      → AreSteps p m blocks next words at 0 steps → AreSteps p m blocks next words (at + 1) 0 steps
-  steps_past at steps none a = record {
-    right = a.right;
-    whole = λ x y l n q fx fy z. elim q [
-      | inl w ↦ elim (cases_eq y at) [
-        | inl e ↦ absurd (none x (omega (arith, l, e)) (ap (slice_index next) (sym e) ∙ fy ∙ e) (z ∙ ap (slice_index blocks) e))
-        | inr d ↦ a.whole x y l n (inl (omega (arith, w, d))) fx fy z
-      ]
-      | inr w ↦ absurd (omega (arith, w.1))
-    ];
-  }
-
-  -- the same steps in another order, each once or more
-  pub steps_moved : (at other : ℕ) (xs ys : List Step) → ((step : Step) → Contains xs step → Contains ys step) → ((step : Step) → Contains ys step → Contains xs step)
-      → AreSteps p m blocks next words at other xs → AreSteps p m blocks next words at other ys
-  steps_moved at other xs ys there back a = record {
-    right = λ k d h. All-contains (IsStep p m blocks words) xs _ a.right (back _ (All-contains_itself ys k d h));
-    whole = λ x y l n q fx fy z. any_moves (IsStepFor p m words x y) xs ys there (a.whole x y l n q fx fy z);
-  }
+-- the same steps in another order, each once or more
+pub steps_moved : (p : ℕ) (m : Moves) (blocks next : List ℕ) (words : List Word) (at : ℕ) (xs ys : List Step) → ((step : Step) → Contains xs step → Contains ys step) → ((step : Step) → Contains ys step → Contains xs step)
+    → AreSteps p m blocks next words at xs → AreSteps p m blocks next words at ys
+steps_moved p m blocks next words at xs ys there back a = record {
+  right = λ k d h. All-contains (IsStep p m blocks words) xs _ a.right (back _ (All-contains_itself ys k d h));
+  whole = λ x y l n fx fy z. any_moves (IsStepFor p m words x y) xs ys there (a.whole x y l n fx fy z);
+}

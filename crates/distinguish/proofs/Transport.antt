@@ -5,7 +5,7 @@ use Rattle.std.proofs.lemmas.List.Elements.{All-weaker}
 use Rattle.forms.specs.Word.{Word, IsOver}
 use Rattle.automata.specs.Moves.{Moves, location_after, mark_after, IsClosed}
 use Rattle.automata.proofs.Words.{over-head, over-tail, location_after-within}
-use Rattle.minimise.specs.Least.{AreTheSame}
+use Rattle.minimise.specs.Minimal.{AreTheSame}
 use Rattle.minimise.specs.Rounds.{IsDivided}
 use Rattle.distinguish.specs.Telling.{IsLeastDistinguishing, IsLeastForSome, IsTellingList}
 use Rattle.distinguish.specs.Columns.{AreColumns}
@@ -33,6 +33,7 @@ module _ (p : ℕ) (m n : Moves) (c : IsClosed p m) (e : AreTheSame p m n) where
   below : (i : ℕ) → i < n.size → i < m.size
   below i h = subst (λ z. i < z) (sym e.size) h
 
+  -- a word that is the least to tell two locations apart is so in both
   pub least_same : (i j : ℕ) → i < m.size → j < m.size → (w : Word) → IsLeastDistinguishing p m i j w → IsLeastDistinguishing p n i j w
   least_same i j h k w l = record {
     over = l.over;
@@ -40,6 +41,7 @@ module _ (p : ℕ) (m n : Moves) (c : IsClosed p m) (e : AreTheSame p m n) where
     least = λ v o b. sym (mark_after-same p m n c e i v h o) ∙ l.least v o b ∙ mark_after-same p m n c e j v k o;
   }
 
+  -- a word that is the least for some two locations is so in both
   pub needed_same : (w : Word) → IsLeastForSome p m w → IsLeastForSome p n w
   needed_same w x = record {
     one = x.one;
@@ -49,6 +51,7 @@ module _ (p : ℕ) (m n : Moves) (c : IsClosed p m) (e : AreTheSame p m n) where
     least = least_same x.one x.other x.one_within x.other_within w x.least;
   }
 
+  -- a telling list is one of both
   pub list_same : (words : List Word) → IsTellingList p m words → IsTellingList p n words
   list_same words t = record {
     order = t.order;
@@ -83,6 +86,7 @@ module _ (p : ℕ) (m n : Moves) (c : IsClosed p m) (e : AreTheSame p m n) where
         };
   }
 
+  -- blocks that words divide are such blocks of both
   pub words_same : (blocks : List ℕ) (words : List Word) (columns : List (List ℕ)) → IsDividedByWords p m blocks words columns → IsDividedByWords p n blocks words columns
   words_same blocks words columns t = record {
     closed = record {
@@ -93,6 +97,7 @@ module _ (p : ℕ) (m n : Moves) (c : IsClosed p m) (e : AreTheSame p m n) where
     some = t.some;
     size = t.size ∙ e.size;
     low = λ at h. t.low at (below at h);
+    own = λ at h. t.own at (below at h);
     divided = divided_same t.letters (slice_index blocks) t.divided;
     order = t.order;
     needed = All-weaker (IsLeastForSome p m) (IsLeastForSome p n) needed_same words t.needed;

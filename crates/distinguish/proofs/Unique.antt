@@ -52,6 +52,7 @@ among-rest u v us vs o e f w c =
       | inr d ↦ d
     ]
 
+-- ordered lists with the same words are one
 pub one_list : (us vs : List Word) → IsOrdered us → IsOrdered vs → AreAmong us vs → AreAmong vs us → us ≡ vs
 one_list [] [] o q f g = refl
 one_list [] (v ∷ vs) o q f g = let c = g v (contains-first v vs) in absurd (omega (arith, c.1))
@@ -78,6 +79,7 @@ among p m us vs needed whole w c =
     let e : a.1 ≡ w = one_least p m n.one n.other a.1 w a.4 n.least in
     subst (Contains vs) e (a.0, a.2, a.3)
 
+-- telling lists have the same words
 pub telling_list_is_unique : TellingListIsUnique
 telling_list_is_unique p m n words others c e a b =
     let t = list_same p m n c e words a in

@@ -83,6 +83,7 @@ first_is_least p m words columns a order needed i j h l any r within before foun
     here : any.1 ≡ get_or words any.0 []
     here = get_or_read words any.0 any.1 any.2 (sym any.3) []
 
+-- the least word that tells two locations apart does so in either order
 pub least_swap : (p : ℕ) (m : Moves) (i j : ℕ) (w : Word) → IsLeastDistinguishing p m i j w → IsLeastDistinguishing p m j i w
 least_swap p m i j w l = record { over = l.over; differ = λ q. l.differ (sym q); least = λ v o b. sym (l.least v o b) }
 

@@ -3,7 +3,7 @@ use Rattle.std.specs.Prelude.{◌≡◌, ◌≢◌, ◌<◌, ◌≤◌, ◌+◌,
 use Rattle.forms.specs.Word.{Word, IsOver}
 use Rattle.forms.specs.Shortlex.{comes_before}
 use Rattle.automata.specs.Moves.{Moves, mark_after, IsClosed}
-use Rattle.minimise.specs.Least.{AreTheSame}
+use Rattle.minimise.specs.Minimal.{AreTheSame}
 
 -- the word leads from the two locations to different marks, and no word that comes before it does
 pub record IsLeastDistinguishing (p : ℕ) (m : Moves) (i j : ℕ) (w : Word) : Type 0 where

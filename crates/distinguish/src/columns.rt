@@ -27,7 +27,8 @@ impl Column {
     /// The marks of all locations, which are those after the empty word.
     pub(crate) fn new(alloc: Global, automaton: &Automaton) -> Result<Column, Memory>
         ensures size { IfOk result (λ column. length column ≡ size_of automaton.now) }
-        ensures marks { IfOk result (λ column. (at : ℕ) → at < size_of automaton.now → slice_index column at ≡ mark_of automaton.now at) }
+        ensures marks { IfOk result (λ column. (at : ℕ) → at < size_of automaton.now
+            → slice_index column at ≡ mark_of automaton.now at) }
     {
         let mut marks = Vec::new(alloc);
         for at in 0..automaton.size() {
@@ -56,7 +57,9 @@ impl Column {
         requires letter { letter < 2 ^ store.now.props }
         requires size { length self.now ≡ size_of automaton.now }
         ensures size { IfOk result (λ column. length column ≡ size_of automaton.now) }
-        ensures marks { IfOk result (λ column. (at : ℕ) → at < size_of automaton.now → slice_index column at ≡ slice_index self.now (next_of store.now automaton.now at letter)) }
+        ensures marks { IfOk result (λ column. (at : ℕ) → at < size_of automaton.now
+            → slice_index column at
+            ≡ slice_index self.now (next_of store.now automaton.now at letter)) }
     {
         let mut marks = Vec::new(alloc);
         for at in 0..automaton.size() {
@@ -66,12 +69,15 @@ impl Column {
     }
 }
 
-/// The place of the first column in which two locations have different marks, or the number of columns.
+/// The place of the first column in which two locations have different marks, or the number of
+/// columns.
 pub(crate) fn first_apart(columns: &[Column], one: u32, other: u32) -> usize
     requires { All (λ column. (one < length column) × (other < length column)) columns.now }
     ensures within { result ≤ length columns.now }
-    ensures before { (k : ℕ) → k < result → mark_in columns.now k one ≡ mark_in columns.now k other }
-    ensures found { result < length columns.now → mark_in columns.now result one ≢ mark_in columns.now result other }
+    ensures before { (k : ℕ) → k < result
+        → mark_in columns.now k one ≡ mark_in columns.now k other }
+    ensures found { result < length columns.now
+        → mark_in columns.now result one ≢ mark_in columns.now result other }
 {
     for (k, column) in columns.iter().enumerate() {
         if column.mark(one) != column.mark(other) {

@@ -2,11 +2,11 @@
 ghost use Rattle.std.specs.Prelude.{◌≡◌, ◌<◌, ◌≤◌, ◌+◌, ◌↔◌, ℕ, [], ◌∷◌, ◌++◌, false, true, IsTrue, EachIndex, All, length, map, slice_index, slice_index_or, IfOk, OnOk};
 ghost use Rattle.diagrams.specs.Live.{Keeps};
 ghost use Rattle.automata.specs.Table.{size_of, Fits, moves_of};
-ghost use Rattle.minimise.specs.Divisions.{AreBlockRows, HaveTargets};
-ghost use Rattle.minimise.specs.Least.{IsLeast};
+ghost use Rattle.minimise.specs.Divisions.{HaveTargets};
+ghost use Rattle.minimise.specs.Minimal.{IsLeast};
 ghost use Rattle.distinguish.specs.Telling.{IsTellingList};
 ghost use Rattle.distinguish.specs.Columns.{AreColumns};
-ghost use Rattle.distinguish.specs.Rounds.{IsByMarks, IsDividedByWords, IsStable};
+ghost use Rattle.distinguish.specs.Rounds.{IsByMarks, HasDivided, HasRows, HasStableBlocks};
 ghost use Rattle.distinguish.specs.Steps.{word_of, CanFollow};
 
 use crate::columns::Column;
@@ -20,7 +20,7 @@ use std::alloc::Global;
 
 /// The words so far, the marks after each, and the blocks that they divide locations into.
 #[derive(Drop)]
-pub(crate) struct Partition {
+pub(crate) struct Refinement {
     pub(crate) blocks: Vec<u32>,
     pub(crate) words: Words,
     pub(crate) columns: Vec<Column>,
@@ -42,11 +42,11 @@ fn are_zeros(blocks: &[u32]) -> bool
 }
 
 /// What the empty word tells apart.
-fn begin(alloc: Global, store: &Store, automaton: &Automaton) -> Result<Partition, Memory>
+fn begin(alloc: Global, store: &Store, automaton: &Automaton) -> Result<Refinement, Memory>
     requires { Fits store.now automaton.now }
-    ensures { IfOk result (λ partition. IsDividedByWords store.now.props (moves_of store.now automaton.now) partition.blocks.items partition.words partition.columns.items) }
+    ensures { IfOk result (λ refinement. HasDivided store.now automaton.now refinement) }
 {
-    let _ = store.look(automaton.row(automaton.first()));
+    prove!(automaton.first() < automaton.size());
     let blocks = blocks_by_marks(alloc, automaton)?;
     let mut words = Words::new(alloc);
     let mut columns = Vec::new(alloc);
@@ -54,7 +54,7 @@ fn begin(alloc: Global, store: &Store, automaton: &Automaton) -> Result<Partitio
         words.push(Letters::new(alloc))?;
         columns.push(Column::new(alloc, automaton)?)?;
     }
-    Ok(Partition {
+    Ok(Refinement {
         blocks,
         words,
         columns,
@@ -86,7 +86,8 @@ fn follow(
     requires step { CanFollow store.now.props (length words.old) step }
     requires columns { AreColumns (moves_of store.now automaton.now) words.old columns.old.items }
     ensures words { OnOk result (words.new ≡ words.old ++ word_of words.old step ∷ []) }
-    ensures columns { OnOk result (AreColumns (moves_of store.now automaton.now) words.new columns.new.items) }
+    ensures columns { OnOk result
+        (AreColumns (moves_of store.now automaton.now) words.new columns.new.items) }
 {
     let word = preceded(alloc, step.letter, words.item(step.rest))?;
     let column = columns[step.rest].after(alloc, store, automaton, step.letter)?;
@@ -108,7 +109,8 @@ fn extend(
     requires steps { All (CanFollow store.now.props (length words.old)) steps.now }
     requires columns { AreColumns (moves_of store.now automaton.now) words.old columns.old.items }
     ensures words { OnOk result (words.new ≡ words.old ++ map (word_of words.old) steps.now) }
-    ensures columns { OnOk result (AreColumns (moves_of store.now automaton.now) words.new columns.new.items) }
+    ensures columns { OnOk result
+        (AreColumns (moves_of store.now automaton.now) words.new columns.new.items) }
 {
     for step in steps {
         follow(alloc, store, automaton, words, columns, *step)?;
@@ -116,29 +118,32 @@ fn extend(
     Ok(())
 }
 
-/// One round of division: whether it found words. The rows are those of all locations, with blocks in place of
-/// locations, before and after.
+/// One round of division: whether it found words. The rows are those of all locations, with blocks
+/// in place of locations, before and after.
 fn next_round(
     alloc: Global,
     store: &mut Store,
     automaton: &Automaton,
     targets: &Targets,
-    partition: &mut Partition,
+    refinement: &mut Refinement,
     rows: &mut Vec<Id>,
 ) -> Result<bool, Memory>
     requires fits { Fits store.old automaton.now }
     requires targets { HaveTargets store.old automaton.now targets.now }
-    requires partition { IsDividedByWords store.old.props (moves_of store.old automaton.now) partition.old.blocks.items partition.old.words partition.old.columns.items }
-    requires rows { AreBlockRows store.old store.old automaton.now partition.old.blocks.items rows.old.items (size_of automaton.now) }
+    requires refinement { HasDivided store.old automaton.now refinement.old }
+    requires rows { HasRows store.old automaton.now refinement.old rows.old.items }
     ensures keeps { Keeps store.old store.new }
-    ensures partition { OnOk result (IsDividedByWords store.new.props (moves_of store.new automaton.now) partition.new.blocks.items partition.new.words partition.new.columns.items) }
-    ensures rows { OnOk result (AreBlockRows store.new store.new automaton.now partition.new.blocks.items rows.new.items (size_of automaton.now)) }
-    ensures more { IfOk result (λ more. more ≡ true → length partition.old.words < length partition.new.words) }
-    ensures stable { IfOk result (λ more. more ≡ false → IsStable store.new.props (moves_of store.new automaton.now) partition.new.blocks.items) }
+    ensures refinement { OnOk result (HasDivided store.new automaton.now refinement.new) }
+    ensures rows { OnOk result (HasRows store.new automaton.now refinement.new rows.new.items) }
+    ensures more { IfOk result (λ more.
+        more ≡ true → length refinement.old.words < length refinement.new.words) }
+    ensures stable { IfOk result (λ more.
+        more ≡ false → HasStableBlocks store.new automaton.now refinement.new) }
 {
-    let _ = store.look(automaton.row(automaton.first()));
+    prove!(automaton.first() < automaton.size());
+    prove!(store.props() <= 32);
     let next = divide_by_rows(alloc, automaton, rows)?;
-    let steps = sorted_steps(alloc, store, automaton, partition, rows, &next)?;
+    let steps = sorted_steps(alloc, store, automaton, refinement, rows, &next)?;
     if steps.is_empty() {
         return Ok(false);
     }
@@ -146,8 +151,8 @@ fn next_round(
         alloc,
         store,
         automaton,
-        &mut partition.words,
-        &mut partition.columns,
+        &mut refinement.words,
+        &mut refinement.columns,
         &steps,
     )?;
     *rows = renewed_rows(
@@ -155,18 +160,18 @@ fn next_round(
         store,
         automaton,
         targets,
-        &partition.blocks,
+        &refinement.blocks,
         &next,
         rows,
     )?;
-    partition.blocks = next;
+    refinement.blocks = next;
     Ok(true)
 }
 
-/// The words that tell two locations apart by the marks to which they lead from them, each for some two locations
-/// the least in shortlex order that does so: in shortlex order, each once. The automaton is a least one, so every
-/// two locations are told apart by one of the words. By `laws_of_telling_words` there are fewer words than
-/// locations, and no other list is this one.
+/// The words that tell two locations apart by the marks to which they lead from them, each for some
+/// two locations the least in shortlex order that does so: in shortlex order, each once. The
+/// automaton is a least one, so every two locations are told apart by one of the words. By
+/// `laws_of_telling_words` there are fewer words than locations, and no other list is this one.
 pub fn telling_words(
     alloc: Global,
     store: &mut Store,
@@ -175,16 +180,25 @@ pub fn telling_words(
     requires fits { Fits store.old automaton.now }
     requires least { IsLeast store.old.props (moves_of store.old automaton.now) }
     ensures keeps { Keeps store.old store.new }
-    ensures telling { IfOk result (λ words. IsTellingList store.old.props (moves_of store.old automaton.now) words) }
+    ensures telling { IfOk result (λ words.
+        IsTellingList store.old.props (moves_of store.old automaton.now) words) }
     ensures few { IfOk result (λ words. length words + 1 ≤ size_of automaton.now) }
 {
-    let _ = store.look(automaton.row(automaton.first()));
+    prove!(automaton.first() < automaton.size());
+    prove!(store.props() <= 32);
     let targets = Targets::new(alloc, store, automaton)?;
-    let mut partition = begin(alloc, store, automaton)?;
-    let mut rows = block_rows(alloc, store, automaton, &partition.blocks)?;
+    let mut refinement = begin(alloc, store, automaton)?;
+    let mut rows = block_rows(alloc, store, automaton, &refinement.blocks)?;
     'round: loop {
-        if !next_round(alloc, store, automaton, &targets, &mut partition, &mut rows)? {
-            return Ok(partition.words);
+        if !next_round(
+            alloc,
+            store,
+            automaton,
+            &targets,
+            &mut refinement,
+            &mut rows,
+        )? {
+            return Ok(refinement.words);
         }
     }
 }

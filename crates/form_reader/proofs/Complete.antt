@@ -12,8 +12,8 @@ use Rattle.form_reader.specs.declared.token.Modality.{Modality}
 use Rattle.form_reader.specs.declared.token.Modality.TheVariants as modalities
 use Rattle.form_reader.specs.declared.token.Token.{Token}
 use Rattle.form_reader.specs.declared.token.Token.TheVariants as token
-use Rattle.form_reader.specs.Grammar.{prefixed, behind, joined, path_joined, level, path_level, unary, star, base, Reads, Leads, Picks, IsText, leaf, prefix_of, modal_of, brackets, alone, infix_of, step_of, test_of, path_brackets, star_of, path_alone, path_infix_of, bare, braces}
-use Rattle.form_reader.specs.Machine.{Item, Bracket, PathBracket, Brace, Angle, Before, Behind, Between, PathBetween, Due, After, PathDue, Picked, Based, Starred, extended, path_extended, is_propositional, run}
+use Rattle.form_reader.specs.Grammar.{prefixed, behind, joined, path_joined, level, path_level, unary, star, base, Reads, Leads, ReadsGuard, IsText, leaf, prefix_of, modal_of, brackets, alone, infix_of, step_of, test_of, path_brackets, star_of, path_alone, path_infix_of, bare, braces}
+use Rattle.form_reader.specs.Machine.{Item, Bracket, PathBracket, Brace, Angle, Before, Behind, Between, PathBetween, Due, After, PathDue, GuardRead, Based, Starred, extended, path_extended, is_propositional, run}
 use Rattle.form_reader.proofs.Propositional.{is_propositional-true}
 
 -- what may follow a formula of level n: no operator of its level or above
@@ -84,10 +84,10 @@ run-Starred ws p [] h = refl
 run-Starred ws p (token.Star ∷ ts) h = absurd (omega arith)
 run-Starred ws p (_ ∷ ts) h = refl
 
-pub run-Picked : (ws : List Item) (f : Formula) (n : ℕ) (ts : List Token) → is_propositional f ≡ true → PathFollows n ts → run (Picked ws f) ts ≡ run (Based ws (formula.Step f)) ts
-run-Picked ws f n [] e h = refl
-run-Picked ws f n (token.Question ∷ ts) e h = absurd h
-run-Picked ws f n (_ ∷ ts) e h = rw e
+pub run-GuardRead : (ws : List Item) (f : Formula) (n : ℕ) (ts : List Token) → is_propositional f ≡ true → PathFollows n ts → run (GuardRead ws f) ts ≡ run (Based ws (formula.Step f)) ts
+run-GuardRead ws f n [] e h = refl
+run-GuardRead ws f n (token.Question ∷ ts) e h = absurd h
+run-GuardRead ws f n (_ ∷ ts) e h = rw e
 
 -- nothing that waits before a binary operator is removed where its left operand fits
 pub extended-Fits : (o : Infix) (ws : List Item) (f : Formula) → Fits (level o) ws → extended o ws f ≡ Between o f ∷ ws
@@ -140,8 +140,8 @@ mutual
       ∙ run-Between o ws f g rest h
 
   pub run-Leads : {n : ℕ} {ts rest : List Token} {p : Program} (ws : List Item) → Leads n ts p rest → PathFollows n rest → PathFits n ws → run (PathDue ws) ts ≡ run (Based ws p) rest
-  run-Leads ws (step_of {ts} {rest} {f} k e) h d = run-Picks ws k ∙ run-Picked ws f base rest (is_propositional-true f e) h
-  run-Leads ws (test_of k) h d = run-Picks ws k
+  run-Leads ws (step_of {ts} {rest} {f} k e) h d = run-ReadsGuard ws k ∙ run-GuardRead ws f base rest (is_propositional-true f e) h
+  run-Leads ws (test_of k) h d = run-ReadsGuard ws k
   run-Leads ws (path_brackets q) h d = run-Leads (PathBracket ∷ ws) q tt tt
   run-Leads ws (star_of {ts} {rest} {p} q) h d = run-Leads ws q (omega arith) (PathFits-suc star ws d) ∙ run-Starred ws (formula.Star p) rest h
   run-Leads ws (path_alone n {ts} {rest} {p} q) h d = run-Leads ws q (PathFollows-suc n rest h) (PathFits-suc n ws d)
@@ -151,9 +151,9 @@ mutual
       ∙ run-Leads (PathBetween o p ∷ ws) s h (omega arith)
       ∙ run-PathBetween o ws p q rest h
 
-  pub run-Picks : {ts rest : List Token} {f : Formula} (ws : List Item) → Picks ts f rest → run (PathDue ws) ts ≡ run (Picked ws f) rest
-  run-Picks ws (bare l) = refl
-  run-Picks ws (braces r) = run-Reads (Brace ∷ ws) r tt tt
+  pub run-ReadsGuard : {ts rest : List Token} {f : Formula} (ws : List Item) → ReadsGuard ts f rest → run (PathDue ws) ts ≡ run (GuardRead ws f) rest
+  run-ReadsGuard ws (bare l) = refl
+  run-ReadsGuard ws (braces r) = run-Reads (Brace ∷ ws) r tt tt
 
 -- what the grammar gives is read
 pub run-IsText : (ts : List Token) (f : Formula) → IsText ts f → run (Due []) ts ≡ Some f

@@ -76,6 +76,3 @@ text-admitted ts = (to, from)
 
     from : IsAdmitted ts → (f : Formula) × IsText ts f
     from h = some (run (Due []) ts) (run-admitted (Due []) ts tt ∙ h) (IsText-run ts)
-
-pub one_tree-read : (ts : List Token) (f g : Formula) → IsReadAs ts f → IsReadAs ts g → f ≡ g
-one_tree-read ts f g h k = one_tree ts f g h.0 k.0

@@ -14,7 +14,7 @@ use Rattle.form_reader.specs.declared.token.Leaf.{Leaf}
 use Rattle.form_reader.specs.declared.token.Leaf.TheVariants as leaf_tokens
 use Rattle.form_reader.specs.declared.token.Token.{Token}
 use Rattle.form_reader.specs.declared.token.Token.TheVariants as token
-use Rattle.form_reader.specs.Grammar.{leaf_of, prefixed, behind, joined, path_joined, Reads, Leads, Picks, leaf, prefix_of, modal_of, brackets, alone, infix_of, step_of, test_of, path_brackets, star_of, path_alone, path_infix_of, bare, braces}
+use Rattle.form_reader.specs.Grammar.{leaf_of, prefixed, behind, joined, path_joined, Reads, Leads, ReadsGuard, leaf, prefix_of, modal_of, brackets, alone, infix_of, step_of, test_of, path_brackets, star_of, path_alone, path_infix_of, bare, braces}
 
 -- the number of the name is below p
 abbrev pub IsNameBelow : ℕ → Token → Type 0
@@ -63,17 +63,17 @@ mutual
       let j = Reads-IsProper c r h in let k = Reads-IsProper c s j.1.1 in (joined-IsProper c o f g j.0 k.0, k.1)
 
   pub Leads-IsProper : (c : ℕ) {n : ℕ} {ts rest : List Token} {p : Program} → Leads n ts p rest → AreNamesBelow c ts → IsProperProgram c p × AreNamesBelow c rest
-  Leads-IsProper c (step_of l e) h = let k = Picks-IsProper c l h in ((e, k.0), k.1)
-  Leads-IsProper c (test_of l) h = let k = Picks-IsProper c l h in (k.0, k.1.1)
+  Leads-IsProper c (step_of l e) h = let k = ReadsGuard-IsProper c l h in ((e, k.0), k.1)
+  Leads-IsProper c (test_of l) h = let k = ReadsGuard-IsProper c l h in (k.0, k.1.1)
   Leads-IsProper c (path_brackets l) h = let k = Leads-IsProper c l h.1 in (k.0, k.1.1)
   Leads-IsProper c (star_of l) h = let k = Leads-IsProper c l h in (k.0, k.1.1)
   Leads-IsProper c (path_alone n l) h = Leads-IsProper c l h
   Leads-IsProper c (path_infix_of o {ts} {us} {rest} {p} {q} l m) h =
       let j = Leads-IsProper c l h in let k = Leads-IsProper c m j.1.1 in (path_joined-IsProper c o p q j.0 k.0, k.1)
 
-  pub Picks-IsProper : (c : ℕ) {ts rest : List Token} {f : Formula} → Picks ts f rest → AreNamesBelow c ts → IsProper c f × AreNamesBelow c rest
-  Picks-IsProper c (bare l) h = (leaf-IsProper c l h.0, h.1)
-  Picks-IsProper c (braces r) h = let k = Reads-IsProper c r h.1 in (k.0, k.1.1)
+  pub ReadsGuard-IsProper : (c : ℕ) {ts rest : List Token} {f : Formula} → ReadsGuard ts f rest → AreNamesBelow c ts → IsProper c f × AreNamesBelow c rest
+  ReadsGuard-IsProper c (bare l) h = (leaf-IsProper c l h.0, h.1)
+  ReadsGuard-IsProper c (braces r) h = let k = Reads-IsProper c r h.1 in (k.0, k.1.1)
 
 leaf-nodes : (l : Leaf) → nodes (leaf_of l) ≤ 7
 leaf-nodes leaf_tokens.True = omega arith
@@ -110,14 +110,14 @@ mutual
   Reads-nodes (infix_of o {ts} {us} {rest} {f} {g} r s) = let a = Reads-nodes r in let b = Reads-nodes s in let e = joined-nodes o f g in omega arith
 
   pub Leads-nodes : {n : ℕ} {ts rest : List Token} {p : Program} → Leads n ts p rest → program_nodes p + 8 * length rest ≤ 8 * length ts
-  Leads-nodes (step_of l e) = let b = Picks-nodes l in omega arith
-  Leads-nodes (test_of l) = let b = Picks-nodes l in omega arith
+  Leads-nodes (step_of l e) = let b = ReadsGuard-nodes l in omega arith
+  Leads-nodes (test_of l) = let b = ReadsGuard-nodes l in omega arith
   Leads-nodes (path_brackets l) = let b = Leads-nodes l in omega arith
   Leads-nodes (star_of l) = let b = Leads-nodes l in omega arith
   Leads-nodes (path_alone n l) = Leads-nodes l
   Leads-nodes (path_infix_of o {ts} {us} {rest} {p} {q} l m) = let a = Leads-nodes l in let b = Leads-nodes m in let e = path_joined-nodes o p q in omega arith
 
   -- and at most seven, where a step is made of it
-  pub Picks-nodes : {ts rest : List Token} {f : Formula} → Picks ts f rest → nodes f + 1 + 8 * length rest ≤ 8 * length ts
-  Picks-nodes (bare l) = let b = leaf-nodes l in omega arith
-  Picks-nodes (braces r) = let b = Reads-nodes r in omega arith
+  pub ReadsGuard-nodes : {ts rest : List Token} {f : Formula} → ReadsGuard ts f rest → nodes f + 1 + 8 * length rest ≤ 8 * length ts
+  ReadsGuard-nodes (bare l) = let b = leaf-nodes l in omega arith
+  ReadsGuard-nodes (braces r) = let b = Reads-nodes r in omega arith

@@ -15,8 +15,8 @@ use Rattle.form_reader.specs.Grammar.{prefixed, behind, joined, path_joined, lev
 use Rattle.form_reader.specs.Waiting as kind
 use Rattle.form_reader.specs.Waiting.{Kind, loosened, path_loosened, after_close, innermost}
 use Rattle.form_reader.specs.Admitted as row
-use Rattle.form_reader.specs.Admitted.{Row, Scan, lists, is_closing, fits, admits, after, picked_row, closed_row, may_end, is_plain_leaf, is_plain_infix}
-use Rattle.form_reader.specs.Machine.{Item, Bracket, PathBracket, Brace, Angle, Before, Behind, Between, PathBetween, State, Due, After, PathDue, Picked, Based, Starred, extended, path_extended, closed, path_closed, finished, step_starred, step_based, step_picked, step, finish, waits, is_propositional}
+use Rattle.form_reader.specs.Admitted.{Row, Scan, lists, is_closing, fits, admits, after, guard_row, closed_row, may_end, is_plain_leaf, is_plain_infix}
+use Rattle.form_reader.specs.Machine.{Item, Bracket, PathBracket, Brace, Angle, Before, Behind, Between, PathBetween, State, Due, After, PathDue, GuardRead, Based, Starred, extended, path_extended, closed, path_closed, finished, step_starred, step_based, step_guard, step, finish, waits, is_propositional}
 use Rattle.form_reader.proofs.Complete.{Fits, PathFits, level-below}
 use Rattle.form_reader.proofs.Plain.{plain, plain_of, plain-prefixed, plain-behind, plain-joined, plain-extended, leaf-plain, and-true, and-false}
 use Rattle.form_reader.proofs.Shapes.{IsShaped, Shaped}
@@ -49,7 +49,7 @@ abbrev pub row_of : State → Row
 row_of (Due ws) = row.Due
 row_of (After ws f) = row.Read
 row_of (PathDue ws) = row.PathDue
-row_of (Picked ws f) = picked_row (is_propositional f)
+row_of (GuardRead ws f) = guard_row (is_propositional f)
 row_of (Based ws p) = row.PathRead
 row_of (Starred ws p) = row.StarRead
 
@@ -126,11 +126,11 @@ closed-Close (Bracket ∷ ws) f c e = ap (λ b. scan row.Read (kinds ws) b) e
 closed-Close _ f c e = tt
 
 -- a `}`: the formula is propositional exactly where all tokens since the `{` are plain
-closed-CloseBrace : (ws : List Item) (f : Formula) (c : Bool) → (is_propositional f && plain ws) ≡ c → IfSome (closed ws f token.CloseBrace) (λ next. scan_of next ≡ scan (picked_row c) (after_close (kinds ws)) false)
+closed-CloseBrace : (ws : List Item) (f : Formula) (c : Bool) → (is_propositional f && plain ws) ≡ c → IfSome (closed ws f token.CloseBrace) (λ next. scan_of next ≡ scan (guard_row c) (after_close (kinds ws)) false)
 closed-CloseBrace (Before p ∷ ws) f c e = closed-CloseBrace ws (prefixed p f) c (plain-prefixed p f (plain ws) ∙ e)
 closed-CloseBrace (Behind m p ∷ ws) f c e = closed-CloseBrace ws (behind m p f) c (plain-behind m p f (plain ws) ∙ e)
 closed-CloseBrace (Between q g ∷ ws) f c e = closed-CloseBrace ws (joined q g f) c (plain-joined q g f (plain ws) ∙ e)
-closed-CloseBrace (Brace ∷ ws) f c e = ap (λ b. scan (picked_row b) (kinds ws) false) (and-true (is_propositional f) ∙ e)
+closed-CloseBrace (Brace ∷ ws) f c e = ap (λ b. scan (guard_row b) (kinds ws) false) (and-true (is_propositional f) ∙ e)
 closed-CloseBrace _ f c e = tt
 
 -- no other token closes a formula
@@ -177,16 +177,16 @@ based-scan : (ws : List Item) (p : Program) (r : Row) (t : Token) → IsShaped t
 based-scan ws p r token.Star h = refl
 based-scan ws p r t h = starred-scan ws p r t h
 
-picked-scan : (ws : List Item) (f : Formula) (r : Row) (t : Token) → IsShaped true ws → IfSome (step_picked ws f t) (λ next. scan_of next ≡ after (scan r (kinds ws) false) t)
-picked-scan ws f r token.Question h = refl
-picked-scan ws f r t h = go (is_propositional f)
+guard-scan : (ws : List Item) (f : Formula) (r : Row) (t : Token) → IsShaped true ws → IfSome (step_guard ws f t) (λ next. scan_of next ≡ after (scan r (kinds ws) false) t)
+guard-scan ws f r token.Question h = refl
+guard-scan ws f r t h = go (is_propositional f)
   where
     go : (b : Bool) → IfSome (cond b (step_based ws (formula.Step f) t) None) (λ next. scan_of next ≡ after (scan r (kinds ws) false) t)
     go true = based-scan ws (formula.Step f) r t h
     go false = tt
 
-picked_leaf : (ks : List Kind) (b c : Bool) → b ≡ c → scan (picked_row b) ks false ≡ scan (picked_row c) ks (c && false)
-picked_leaf ks b c e = same_scan_at ks _ _ _ _ (ap picked_row e) (sym (and-false c))
+guard_leaf : (ks : List Kind) (b c : Bool) → b ≡ c → scan (guard_row b) ks false ≡ scan (guard_row c) ks (c && false)
+guard_leaf ks b c e = same_scan_at ks _ _ _ _ (ap guard_row e) (sym (and-false c))
 
 -- a token takes the table where it takes the machine
 pub step-scan : (s : State) (t : Token) → Shaped s → IfSome (step s t) (λ next. scan_of next ≡ after (scan_of s) t)
@@ -199,11 +199,11 @@ step-scan (After ws f) (token.Infix o) h = same_scan row.Due _ _ _ _ (kinds-exte
 step-scan (After ws f) token.Close h = closed-Close ws f _ refl
 step-scan (After ws f) token.CloseBrace h = closed-CloseBrace ws f _ refl
 step-scan (After ws f) t h = IfSome-None _ (closed ws f t) (closed-None ws f t refl)
-step-scan (PathDue ws) (token.Leaf l) h = picked_leaf (kinds ws) _ _ (leaf-plain l)
+step-scan (PathDue ws) (token.Leaf l) h = guard_leaf (kinds ws) _ _ (leaf-plain l)
 step-scan (PathDue ws) token.OpenBrace h = refl
 step-scan (PathDue ws) token.Open h = refl
 step-scan (PathDue ws) _ h = tt
-step-scan (Picked ws f) t h = picked-scan ws f (picked_row (is_propositional f)) t h
+step-scan (GuardRead ws f) t h = guard-scan ws f (guard_row (is_propositional f)) t h
 step-scan (Based ws p) t h = based-scan ws p row.PathRead t h
 step-scan (Starred ws p) t h = starred-scan ws p row.StarRead t h
 
@@ -254,15 +254,15 @@ based-admits : (ws : List Item) (p : Program) (c : Bool) (t : Token) → IsShape
 based-admits ws p c token.Star h = refl
 based-admits ws p c t h = starred-admits ws p c t h
 
-picked-admits : (ws : List Item) (f : Formula) (c : Bool) (t : Token) → IsShaped true ws → is_some (step_picked ws f t) ≡ admits (scan (picked_row (is_propositional f)) (kinds ws) c) t
-picked-admits ws f c token.Question h = go (is_propositional f)
+guard-admits : (ws : List Item) (f : Formula) (c : Bool) (t : Token) → IsShaped true ws → is_some (step_guard ws f t) ≡ admits (scan (guard_row (is_propositional f)) (kinds ws) c) t
+guard-admits ws f c token.Question h = go (is_propositional f)
   where
-    go : (b : Bool) → true ≡ admits (scan (picked_row b) (kinds ws) c) token.Question
+    go : (b : Bool) → true ≡ admits (scan (guard_row b) (kinds ws) c) token.Question
     go true = refl
     go false = refl
-picked-admits ws f c t h = go (is_propositional f)
+guard-admits ws f c t h = go (is_propositional f)
   where
-    go : (b : Bool) → is_some (cond b (step_based ws (formula.Step f) t) None) ≡ admits (scan (picked_row b) (kinds ws) c) t
+    go : (b : Bool) → is_some (cond b (step_based ws (formula.Step f) t) None) ≡ admits (scan (guard_row b) (kinds ws) c) t
     go true = based-admits ws (formula.Step f) c t h
     go false = refl
 
@@ -281,7 +281,7 @@ step-admits (PathDue ws) (token.Leaf l) h = refl
 step-admits (PathDue ws) token.OpenBrace h = refl
 step-admits (PathDue ws) token.Open h = refl
 step-admits (PathDue ws) _ h = refl
-step-admits (Picked ws f) t h = picked-admits ws f false t h
+step-admits (GuardRead ws f) t h = guard-admits ws f false t h
 step-admits (Based ws p) t h = based-admits ws p false t h
 step-admits (Starred ws p) t h = starred-admits ws p false t h
 
@@ -297,9 +297,9 @@ finished-innermost _ f h = absurd h
 -- the text may end exactly where the machine has a formula
 pub finish-may_end : (s : State) → Shaped s → is_some (finish s) ≡ may_end (scan_of s)
 finish-may_end (After ws f) h = finished-innermost ws f h
-finish-may_end (Picked ws f) h = go (is_propositional f)
+finish-may_end (GuardRead ws f) h = go (is_propositional f)
   where
-    go : (b : Bool) → false ≡ may_end (scan (picked_row b) (kinds ws) false)
+    go : (b : Bool) → false ≡ may_end (scan (guard_row b) (kinds ws) false)
     go true = refl
     go false = refl
 finish-may_end _ h = refl

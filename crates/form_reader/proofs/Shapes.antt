@@ -10,7 +10,7 @@ use Rattle.form_reader.specs.declared.token.Modality.TheVariants as modalities
 use Rattle.form_reader.specs.declared.token.Token.{Token}
 use Rattle.form_reader.specs.declared.token.Token.TheVariants as token
 use Rattle.form_reader.specs.Grammar.{prefixed, behind, joined, path_joined, level, path_level}
-use Rattle.form_reader.specs.Machine.{Item, Bracket, PathBracket, Brace, Angle, Before, Behind, Between, PathBetween, State, Due, After, PathDue, Picked, Based, Starred, extended, path_extended, closed, path_closed, step_starred, step_based, step_picked, step, is_propositional}
+use Rattle.form_reader.specs.Machine.{Item, Bracket, PathBracket, Brace, Angle, Before, Behind, Between, PathBetween, State, Due, After, PathDue, GuardRead, Based, Starred, extended, path_extended, closed, path_closed, step_starred, step_based, step_guard, step, is_propositional}
 use Rattle.form_reader.proofs.Complete.{Fits, PathFits}
 
 -- the items can wait, before a path or before a formula
@@ -31,7 +31,7 @@ abbrev pub Shaped : State → Type 0
 Shaped (Due ws) = IsShaped false ws
 Shaped (After ws f) = IsShaped false ws
 Shaped (PathDue ws) = IsShaped true ws
-Shaped (Picked ws f) = IsShaped true ws
+Shaped (GuardRead ws f) = IsShaped true ws
 Shaped (Based ws p) = IsShaped true ws
 Shaped (Starred ws p) = IsShaped true ws
 
@@ -81,9 +81,9 @@ based-Shaped : (ws : List Item) (p : Program) (t : Token) → IsShaped true ws �
 based-Shaped ws p token.Star h = h
 based-Shaped ws p t h = starred-Shaped ws p t h
 
-picked-Shaped : (ws : List Item) (f : Formula) (t : Token) → IsShaped true ws → IfSome (step_picked ws f t) Shaped
-picked-Shaped ws f token.Question h = h
-picked-Shaped ws f t h = go (is_propositional f)
+guard-Shaped : (ws : List Item) (f : Formula) (t : Token) → IsShaped true ws → IfSome (step_guard ws f t) Shaped
+guard-Shaped ws f token.Question h = h
+guard-Shaped ws f t h = go (is_propositional f)
   where
     go : (b : Bool) → IfSome (cond b (step_based ws (formula.Step f) t) None) Shaped
     go true = based-Shaped ws (formula.Step f) t h
@@ -102,6 +102,6 @@ step-Shaped (PathDue ws) (token.Leaf l) h = h
 step-Shaped (PathDue ws) token.OpenBrace h = h
 step-Shaped (PathDue ws) token.Open h = h
 step-Shaped (PathDue ws) _ h = tt
-step-Shaped (Picked ws f) t h = picked-Shaped ws f t h
+step-Shaped (GuardRead ws f) t h = guard-Shaped ws f t h
 step-Shaped (Based ws p) t h = based-Shaped ws p t h
 step-Shaped (Starred ws p) t h = starred-Shaped ws p t h

@@ -11,8 +11,8 @@ use Rattle.form_reader.specs.declared.token.Modality.{Modality}
 use Rattle.form_reader.specs.declared.token.Modality.TheVariants as modalities
 use Rattle.form_reader.specs.declared.token.Token.{Token}
 use Rattle.form_reader.specs.declared.token.Token.TheVariants as token
-use Rattle.form_reader.specs.Grammar.{prefixed, behind, joined, path_joined, level, path_level, unary, star, base, Reads, Leads, Picks, IsText, leaf, prefix_of, modal_of, brackets, alone, infix_of, step_of, test_of, path_brackets, star_of, path_alone, path_infix_of, bare, braces}
-use Rattle.form_reader.specs.Machine.{Item, Bracket, PathBracket, Brace, Angle, Before, Behind, Between, PathBetween, State, Due, After, PathDue, Picked, Based, Starred, extended, path_extended, closed, path_closed, finished, step_starred, step_based, step_picked, step, is_propositional, run}
+use Rattle.form_reader.specs.Grammar.{prefixed, behind, joined, path_joined, level, path_level, unary, star, base, Reads, Leads, ReadsGuard, IsText, leaf, prefix_of, modal_of, brackets, alone, infix_of, step_of, test_of, path_brackets, star_of, path_alone, path_infix_of, bare, braces}
+use Rattle.form_reader.specs.Machine.{Item, Bracket, PathBracket, Brace, Angle, Before, Behind, Between, PathBetween, State, Due, After, PathDue, GuardRead, Based, Starred, extended, path_extended, closed, path_closed, finished, step_starred, step_based, step_guard, step, is_propositional, run}
 use Rattle.form_reader.proofs.Propositional.{IsPropositional-tested}
 use Rattle.form_reader.proofs.Complete.{Fits, PathFits, level-below, path_level-below}
 
@@ -87,7 +87,7 @@ abbrev pub Holds : List Token → State → List Token → Type 0
 Holds input (Due ws) ts = Spells input ws ts
 Holds input (After ws f) ts = Operand input ws unary f ts
 Holds input (PathDue ws) ts = Spells input ws ts
-Holds input (Picked ws f) ts = (us : List Token) × Spells input ws us × Picks us f ts
+Holds input (GuardRead ws f) ts = (us : List Token) × Spells input ws us × ReadsGuard us f ts
 Holds input (Based ws p) ts = PathOperand input ws base p ts
 Holds input (Starred ws p) ts = PathOperand input ws star p ts
 
@@ -144,9 +144,9 @@ step_based-Holds : (input : List Token) (ws : List Item) (p : Program) (t : Toke
 step_based-Holds input ws p token.Star ts o = record { from = o.from; spells = o.spells; leads = star_of o.leads; fits = PathFits-star star ws (omega arith) }
 step_based-Holds input ws p t ts o = step_starred-Holds input ws p t ts (looser input ws p (t ∷ ts) o)
 
-step_picked-Holds : (input : List Token) (ws : List Item) (f : Formula) (t : Token) (ts : List Token) → (us : List Token) × Spells input ws us × Picks us f (t ∷ ts) → IfSome (step_picked ws f t) (λ next. Holds input next ts)
-step_picked-Holds input ws f token.Question ts h = record { from = h.0; spells = h.1; leads = test_of h.2; fits = PathFits-star base ws (omega arith) }
-step_picked-Holds input ws f t ts h = go (is_propositional f) refl
+step_guard-Holds : (input : List Token) (ws : List Item) (f : Formula) (t : Token) (ts : List Token) → (us : List Token) × Spells input ws us × ReadsGuard us f (t ∷ ts) → IfSome (step_guard ws f t) (λ next. Holds input next ts)
+step_guard-Holds input ws f token.Question ts h = record { from = h.0; spells = h.1; leads = test_of h.2; fits = PathFits-star base ws (omega arith) }
+step_guard-Holds input ws f t ts h = go (is_propositional f) refl
   where
     go : (b : Bool) → is_propositional f ≡ b → IfSome (cond b (step_based ws (formula.Step f) t) None) (λ next. Holds input next ts)
     go true e = step_based-Holds input ws (formula.Step f) t ts (record { from = h.0; spells = h.1; leads = step_of h.2 (IsPropositional-tested f e); fits = PathFits-star base ws (omega arith) })
@@ -164,7 +164,7 @@ step-Holds input (PathDue ws) (token.Leaf l) ts h = (token.Leaf l ∷ ts, h, bar
 step-Holds input (PathDue ws) token.OpenBrace ts h = h
 step-Holds input (PathDue ws) token.Open ts h = h
 step-Holds input (PathDue ws) _ ts h = tt
-step-Holds input (Picked ws f) t ts h = step_picked-Holds input ws f t ts h
+step-Holds input (GuardRead ws f) t ts h = step_guard-Holds input ws f t ts h
 step-Holds input (Based ws p) t ts h = step_based-Holds input ws p t ts h
 step-Holds input (Starred ws p) t ts h = step_starred-Holds input ws p t ts h
 

@@ -11,7 +11,7 @@ use Rattle.form_reader.specs.declared.token.Modality.TheVariants as modalities
 use Rattle.form_reader.specs.declared.token.Leaf.TheVariants as leaf_tokens
 use Rattle.form_reader.specs.declared.token.Token.{Token}
 use Rattle.form_reader.specs.declared.token.Token.TheVariants as token
-use Rattle.form_reader.specs.Grammar.{joined, path_joined, level, path_level, unary, star, base, Reads, Leads, Picks, IsText, leaf, prefix_of, modal_of, brackets, infix_of, step_of, test_of, path_brackets, star_of, path_infix_of, bare, braces}
+use Rattle.form_reader.specs.Grammar.{joined, path_joined, level, path_level, unary, star, base, Reads, Leads, ReadsGuard, IsText, leaf, prefix_of, modal_of, brackets, infix_of, step_of, test_of, path_brackets, star_of, path_infix_of, bare, braces}
 use Rattle.form_reader.specs.Printed.{is_bare, is_starred}
 use Rattle.form_reader.proofs.Complete.{level-below, path_level-below}
 use Rattle.form_reader.proofs.Sound.{Reads-looser, Leads-looser}
@@ -64,11 +64,11 @@ Leads-between o r s =
     path_brackets (Leads-looser 0 (path_level o) (omega arith) (path_infix_of o (Leads-looser (suc (path_level o)) star (omega arith) r) (Leads-looser (path_level o) star (omega arith) s)))
 
 -- what a step or a test holds
-Picks-held : (f : Formula) (rest : List Token) → Reads unary (written f (token.CloseBrace ∷ rest)) f (token.CloseBrace ∷ rest) → Picks (cond (is_bare f) (written f rest) (token.OpenBrace ∷ written f (token.CloseBrace ∷ rest))) f rest
-Picks-held True rest r = bare leaf_tokens.True
-Picks-held False rest r = bare leaf_tokens.False
-Picks-held (Atom i) rest r = bare (leaf_tokens.Name i)
-Picks-held _ rest r = braces (Reads-looser 0 unary (omega arith) r)
+ReadsGuard-held : (f : Formula) (rest : List Token) → Reads unary (written f (token.CloseBrace ∷ rest)) f (token.CloseBrace ∷ rest) → ReadsGuard (cond (is_bare f) (written f rest) (token.OpenBrace ∷ written f (token.CloseBrace ∷ rest))) f rest
+ReadsGuard-held True rest r = bare leaf_tokens.True
+ReadsGuard-held False rest r = bare leaf_tokens.False
+ReadsGuard-held (Atom i) rest r = bare (leaf_tokens.Name i)
+ReadsGuard-held _ rest r = braces (Reads-looser 0 unary (omega arith) r)
 
 -- a path with a star behind it
 Leads-starred : (p : Program) (rest : List Token) → ((us : List Token) → Leads (height p) (written_path p us) p us) → Leads base (cond (is_starred p) (token.Open ∷ written_path p (token.Close ∷ token.Star ∷ rest)) (written_path p (token.Star ∷ rest))) p (token.Star ∷ rest)
@@ -95,8 +95,8 @@ mutual
   Reads-written n (BoxAll p f) rest h = modal_of modalities.BoxAll (Leads-looser 0 (height p) (omega arith) (Leads-written n p _ h.0)) (Reads-written n f rest h.1)
 
   Leads-written : (n : ℕ) (p : Program) (rest : List Token) → IsProperProgram n p → Leads (height p) (written_path p rest) p rest
-  Leads-written n (Step f) rest h = step_of (Picks-held f rest (Reads-written n f _ h.1)) h.0
-  Leads-written n (Test f) rest h = test_of (Picks-held f (token.Question ∷ rest) (Reads-written n f _ h))
+  Leads-written n (Step f) rest h = step_of (ReadsGuard-held f rest (Reads-written n f _ h.1)) h.0
+  Leads-written n (Test f) rest h = test_of (ReadsGuard-held f (token.Question ∷ rest) (Reads-written n f _ h))
   Leads-written n (Choice p q) rest h = Leads-between path_binary.Choice (Leads-looser star (height p) (height-star p) (Leads-written n p _ h.0)) (Leads-looser star (height q) (height-star q) (Leads-written n q _ h.1))
   Leads-written n (Seq p q) rest h = Leads-between path_binary.Seq (Leads-looser star (height p) (height-star p) (Leads-written n p _ h.0)) (Leads-looser star (height q) (height-star q) (Leads-written n q _ h.1))
   Leads-written n (Star p) rest h = star_of (Leads-starred p rest (λ us. Leads-written n p us h))

@@ -120,8 +120,8 @@ plain_after plain token.OpenBrace = true
 plain_after plain t = is_plain t && plain
 
 -- the row after a step or a test, or after what can be a test alone
-abbrev pub picked_row : Bool → Row
-picked_row plain = if plain then StepRead else TestRead
+abbrev pub guard_row : Bool → Row
+guard_row plain = if plain then StepRead else TestRead
 
 -- the row after a `)` that closed the bracket
 abbrev pub closed_row : Option Kind → Row
@@ -134,11 +134,11 @@ row_after g token.Open = if is_path_due g.row then PathDue else Due
 row_after g token.Close = closed_row (innermost g.waits)
 row_after g (token.Prefix p) = Due
 row_after g (token.Infix o) = Due
-row_after g (token.Leaf l) = if is_path_due g.row then picked_row (is_plain_leaf l) else Read
+row_after g (token.Leaf l) = if is_path_due g.row then guard_row (is_plain_leaf l) else Read
 row_after g (token.OpenModality m) = PathDue
 row_after g (token.CloseModality m) = Due
 row_after g token.OpenBrace = Due
-row_after g token.CloseBrace = picked_row g.plain
+row_after g token.CloseBrace = guard_row g.plain
 row_after g token.Question = PathRead
 row_after g token.Star = StarRead
 row_after g (token.PathInfix o) = PathDue

@@ -90,17 +90,17 @@ mutual
 
   -- `Leads n ts p rest`: the same of a path of level n with the tree p.
   pub data Leads : ℕ → List Token → Program → List Token → Type 0 where
-    step_of : {ts rest : List Token} → {f : Formula} → Picks ts f rest → IsPropositional f → Leads base ts (formula.Step f) rest
-    test_of : {ts rest : List Token} → {f : Formula} → Picks ts f (token.Question ∷ rest) → Leads base ts (formula.Test f) rest
+    step_of : {ts rest : List Token} → {f : Formula} → ReadsGuard ts f rest → IsPropositional f → Leads base ts (formula.Step f) rest
+    test_of : {ts rest : List Token} → {f : Formula} → ReadsGuard ts f (token.Question ∷ rest) → Leads base ts (formula.Test f) rest
     path_brackets : {ts rest : List Token} → {p : Program} → Leads 0 ts p (token.Close ∷ rest) → Leads base (token.Open ∷ ts) p rest
     star_of : {ts rest : List Token} → {p : Program} → Leads base ts p (token.Star ∷ rest) → Leads star ts (formula.Star p) rest
     path_alone : (n : ℕ) → {ts rest : List Token} → {p : Program} → Leads (suc n) ts p rest → Leads n ts p rest
     path_infix_of : (o : PathInfix) → {ts us rest : List Token} → {p q : Program} → Leads (suc (path_level o)) ts p (token.PathInfix o ∷ us) → Leads (path_level o) us q rest → Leads (path_level o) ts (path_joined o p q) rest
 
-  -- `Picks ts f rest`: the same of what a step or a test holds, a name, a constant word or a formula in braces.
-  pub data Picks : List Token → Formula → List Token → Type 0 where
-    bare : (l : Leaf) → {rest : List Token} → Picks (token.Leaf l ∷ rest) (leaf_of l) rest
-    braces : {ts rest : List Token} → {f : Formula} → Reads 0 ts f (token.CloseBrace ∷ rest) → Picks (token.OpenBrace ∷ ts) f rest
+  -- `ReadsGuard ts f rest`: the same of what a step or a test holds, a name, a constant word or a formula in braces.
+  pub data ReadsGuard : List Token → Formula → List Token → Type 0 where
+    bare : (l : Leaf) → {rest : List Token} → ReadsGuard (token.Leaf l ∷ rest) (leaf_of l) rest
+    braces : {ts rest : List Token} → {f : Formula} → Reads 0 ts f (token.CloseBrace ∷ rest) → ReadsGuard (token.OpenBrace ∷ ts) f rest
 
 -- the tokens are the text of the formula
 abbrev pub IsText : List Token → Formula → Type 0

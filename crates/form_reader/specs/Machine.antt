@@ -43,7 +43,7 @@ pub data State : Type 0 where
   -- a path is due
   PathDue : (waits : List Item) → State
   -- what a step or a test holds was read
-  Picked : (waits : List Item) → (f : Formula) → State
+  GuardRead : (waits : List Item) → (f : Formula) → State
   -- a path was read that may take a star
   Based : (waits : List Item) → (p : Program) → State
   Starred : (waits : List Item) → (p : Program) → State
@@ -68,7 +68,7 @@ closed (Before p ∷ ws) f t = closed ws (prefixed p f) t
 closed (Behind m p ∷ ws) f t = closed ws (behind m p f) t
 closed (Between q g ∷ ws) f t = closed ws (joined q g f) t
 closed (Bracket ∷ ws) f token.Close = Some (After ws f)
-closed (Brace ∷ ws) f token.CloseBrace = Some (Picked ws f)
+closed (Brace ∷ ws) f token.CloseBrace = Some (GuardRead ws f)
 closed ws f t = None
 
 -- a path is closed by `)`, `>` or `]`
@@ -102,9 +102,9 @@ abbrev pub step_stepped : List Item → Formula → Token → Option State
 step_stepped ws f t = if is_propositional f then step_based ws (formula.Step f) t else None
 
 -- a token after what a step or a test holds
-abbrev pub step_picked : List Item → Formula → Token → Option State
-step_picked ws f token.Question = Some (Based ws (formula.Test f))
-step_picked ws f t = step_stepped ws f t
+abbrev pub step_guard : List Item → Formula → Token → Option State
+step_guard ws f token.Question = Some (Based ws (formula.Test f))
+step_guard ws f t = step_stepped ws f t
 
 -- the state after a token, if the token has a place there
 abbrev pub step : State → Token → Option State
@@ -115,11 +115,11 @@ step (Due ws) (token.Leaf l) = Some (After ws (leaf_of l))
 step (Due ws) _ = None
 step (After ws f) (token.Infix o) = Some (Due (extended o ws f))
 step (After ws f) t = closed ws f t
-step (PathDue ws) (token.Leaf l) = Some (Picked ws (leaf_of l))
+step (PathDue ws) (token.Leaf l) = Some (GuardRead ws (leaf_of l))
 step (PathDue ws) token.OpenBrace = Some (Due (Brace ∷ ws))
 step (PathDue ws) token.Open = Some (PathDue (PathBracket ∷ ws))
 step (PathDue ws) _ = None
-step (Picked ws f) t = step_picked ws f t
+step (GuardRead ws f) t = step_guard ws f t
 step (Based ws p) t = step_based ws p t
 step (Starred ws p) t = step_starred ws p t
 
@@ -138,7 +138,7 @@ abbrev pub waits : State → List Item
 waits (Due ws) = ws
 waits (After ws f) = ws
 waits (PathDue ws) = ws
-waits (Picked ws f) = ws
+waits (GuardRead ws f) = ws
 waits (Based ws p) = ws
 waits (Starred ws p) = ws
 

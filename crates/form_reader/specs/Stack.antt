@@ -43,7 +43,7 @@ abbrev pub state_at : List machine.Item → Latest → machine.State
 state_at ws latests.FormulaDue = machine.Due ws
 state_at ws (latests.Formula operand) = machine.After ws (tree operand.form)
 state_at ws latests.PathDue = machine.PathDue ws
-state_at ws (latests.Pick operand) = machine.Picked ws (tree operand.form)
+state_at ws (latests.Guard operand) = machine.GuardRead ws (tree operand.form)
 state_at ws (latests.Path p) = machine.Based ws (program p)
 state_at ws (latests.Starred p) = machine.Starred ws (program p)
 

@@ -34,7 +34,7 @@ pub enum Latest {
     Formula(Operand),
     PathDue,
     /// What a step or a test holds.
-    Pick(Operand),
+    Guard(Operand),
     /// A path that may take a star.
     Path(Path),
     Starred(Path),

@@ -20,8 +20,6 @@ mod reading;
 mod searching;
 mod spelling;
 mod step;
-#[cfg(test)]
-mod tests;
 mod token;
 mod word;
 
@@ -32,4 +30,4 @@ pub use names::Names;
 pub use printing::{print_form, print_part};
 pub use read_back::laws_of_printing;
 pub use reading::read_form;
-pub use word::{begins_word, goes_on, is_blank, word_length};
+pub use word::{LONGEST_WORD, begins_word, is_blank, word_length};

@@ -157,7 +157,7 @@ fn end(alloc: Global, waiting: &mut Vec<Item>, latest: Latest) -> Result<Form, F
         },
         Latest::FormulaDue => Err(FormFault::Unfinished),
         Latest::PathDue => Err(FormFault::Unfinished),
-        Latest::Pick(_) => Err(FormFault::Unfinished),
+        Latest::Guard(_) => Err(FormFault::Unfinished),
         Latest::Path(_) => Err(FormFault::Unfinished),
         Latest::Starred(_) => Err(FormFault::Unfinished),
     }
@@ -192,7 +192,8 @@ fn read_text(
     end(alloc, &mut waiting, latest)
 }
 
-/// The formula of a text.
+/// The formula of a text of at most 2,000 tokens, with at most 300 operators and brackets waiting at a time and 32
+/// names. New names join the table in order of first use, unless it is closed.
 pub fn read_form(
     alloc: Global,
     dialect: Dialect,

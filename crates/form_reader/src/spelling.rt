@@ -7,10 +7,8 @@ ghost use Rattle.form_reader.specs.Found.{lexeme_of, lexeme_at, IsPieceAt, IsNam
 use crate::dialect::Dialect;
 use crate::token::{Infix, Leaf, Modality, PathInfix, Prefix, Token};
 use crate::word::{
-    begins_word, goes_on, is_blank, is_constant, is_operator, is_unused, word_length,
+    LONGEST_WORD, begins_word, goes_on, is_blank, is_constant, is_operator, is_unused, word_length,
 };
-
-const LONGEST_WORD: usize = 64;
 
 /// What stands at a place of a text.
 #[derive(Clone, Copy)]
@@ -74,10 +72,7 @@ fn dialect_sign(dialect: Dialect, byte: u8) -> Option<(Token, usize)>
 {
     match dialect {
         Dialect::Ltlf => None,
-        Dialect::Ldlf => match path_sign(byte) {
-            Some(token) => Some((token, 1)),
-            None => None,
-        },
+        Dialect::Ldlf => path_sign(byte).map(|token| (token, 1)),
     }
 }
 

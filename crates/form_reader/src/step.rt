@@ -87,7 +87,7 @@ fn closed(b: Bracket, operand: Operand, token: Token) -> Result<Latest, StepFaul
 {
     match (b, token) {
         (Bracket::Formula, Token::Close) => Ok(Latest::Formula(operand)),
-        (Bracket::Brace, Token::CloseBrace) => Ok(Latest::Pick(operand)),
+        (Bracket::Brace, Token::CloseBrace) => Ok(Latest::Guard(operand)),
         _ => Err(StepFault::Refused),
     }
 }
@@ -157,7 +157,7 @@ pub fn finish(alloc: Global, waiting: &mut Vec<Item>, operand: Operand) -> Resul
 }
 
 /// Takes the latest item away if it is applied before a binary operator comes to wait.
-fn take_tighter(waiting: &mut Vec<Item>, operator: Infix) -> Result<Option<Operator>, StepFault>
+fn pop_tighter(waiting: &mut Vec<Item>, operator: Infix) -> Result<Option<Operator>, StepFault>
     ensures found { MatchResult result (λ found. MatchOption found ((f : Formula) → machine.extended operator (stack waiting.old.items) f ≡ machine.Between operator f ∷ stack waiting.new.items) (λ tighter. (f : Formula) → machine.extended operator (stack waiting.old.items) f ≡ machine.extended operator (stack waiting.new.items) (applied tighter f))) (λ e. e ≡ StepFault.Memory) }
     ensures shorter { MatchResult result (λ found. IfSome found (λ tighter. vec_len waiting.new < vec_len waiting.old)) (λ e. e ≡ StepFault.Memory) }
 {
@@ -194,7 +194,7 @@ fn extend(
     ensures { MatchResult result (λ _. stack waiting.new.items ≡ machine.extended operator (stack waiting.old.items) (tree operand.form)) (λ e. e ≡ StepFault.Memory) }
 {
     let mut made = operand;
-    while let Some(tighter) = take_tighter(waiting, operator)? {
+    while let Some(tighter) = pop_tighter(waiting, operator)? {
         made = apply(alloc, tighter, made)?;
     }
     waiting.push(Item::Operator(Operator::Between(operator, made)))?;
@@ -202,7 +202,7 @@ fn extend(
 }
 
 /// Takes the latest item away if it is applied before an operator between paths comes to wait.
-fn take_tighter_path(
+fn pop_tighter_path(
     waiting: &mut Vec<Item>,
     operator: PathInfix,
 ) -> Result<Option<(PathInfix, Path)>, StepFault>
@@ -240,7 +240,7 @@ fn extend_path(
     ensures { MatchResult result (λ _. stack waiting.new.items ≡ machine.path_extended operator (stack waiting.old.items) (program path)) (λ e. e ≡ StepFault.Memory) }
 {
     let mut made = path;
-    while let Some((tighter, left)) = take_tighter_path(waiting, operator)? {
+    while let Some((tighter, left)) = pop_tighter_path(waiting, operator)? {
         made = joined_paths(alloc, tighter, left, made)?;
     }
     waiting.push(Item::PathOperator(operator, made))?;
@@ -260,7 +260,7 @@ pub fn step(
         Latest::FormulaDue => begin_formula(alloc, waiting, token),
         Latest::Formula(operand) => after_formula(alloc, waiting, operand, token),
         Latest::PathDue => begin_path(alloc, waiting, token),
-        Latest::Pick(operand) => after_pick(alloc, waiting, operand, token),
+        Latest::Guard(operand) => after_guard(alloc, waiting, operand, token),
         Latest::Path(path) => after_path(alloc, waiting, path, token),
         Latest::Starred(path) => after_star(alloc, waiting, path, token),
     }
@@ -312,7 +312,7 @@ fn begin_path(alloc: Global, waiting: &mut Vec<Item>, token: Token) -> Result<La
     ensures { MatchResult result (λ next. machine.step (machine.PathDue (stack waiting.old.items)) token ≡ Some (state_of waiting.new.items next)) (λ e. Fails e (machine.step (machine.PathDue (stack waiting.old.items)) token ≡ None)) }
 {
     match token {
-        Token::Leaf(l) => Ok(Latest::Pick(leaf(alloc, l)?)),
+        Token::Leaf(l) => Ok(Latest::Guard(leaf(alloc, l)?)),
         Token::OpenBrace => {
             waiting.push(Item::Bracket(Bracket::Brace))?;
             Ok(Latest::FormulaDue)
@@ -326,13 +326,13 @@ fn begin_path(alloc: Global, waiting: &mut Vec<Item>, token: Token) -> Result<La
 }
 
 /// A token after what a step or a test holds.
-fn after_pick(
+fn after_guard(
     alloc: Global,
     waiting: &mut Vec<Item>,
     operand: Operand,
     token: Token,
 ) -> Result<Latest, StepFault>
-    ensures { MatchResult result (λ next. machine.step_picked (stack waiting.old.items) (tree operand.form) token ≡ Some (state_of waiting.new.items next)) (λ e. Fails e (machine.step_picked (stack waiting.old.items) (tree operand.form) token ≡ None)) }
+    ensures { MatchResult result (λ next. machine.step_guard (stack waiting.old.items) (tree operand.form) token ≡ Some (state_of waiting.new.items next)) (λ e. Fails e (machine.step_guard (stack waiting.old.items) (tree operand.form) token ≡ None)) }
 {
     match token {
         Token::Question => Ok(Latest::Path(test_path(alloc, operand)?)),

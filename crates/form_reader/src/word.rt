@@ -13,14 +13,14 @@ pub fn is_blank(byte: u8) -> bool
 pub fn begins_word(byte: u8) -> bool
     ensures { result ≡ words.begins_word byte }
 {
-    b'a' <= byte && byte <= b'z' || b'A' <= byte && byte <= b'Z' || byte == b'_'
+    byte.is_ascii_alphabetic() || byte == b'_'
 }
 
 /// An ASCII letter, a digit or `_`, as words go on.
 pub fn goes_on(byte: u8) -> bool
     ensures { result ≡ words.goes_on byte }
 {
-    begins_word(byte) || b'0' <= byte && byte <= b'9'
+    begins_word(byte) || byte.is_ascii_digit()
 }
 
 /// How many bytes at the front are letters, digits or `_`.
@@ -83,7 +83,8 @@ pub fn is_name(word: &[u8]) -> bool
     is_word(word) && !is_constant(word) && !is_operator(word) && !is_unused(word)
 }
 
-const LONGEST_WORD: usize = 64;
+/// The most bytes of a word.
+pub const LONGEST_WORD: usize = 64;
 
 fn is_word(word: &[u8]) -> bool
     ensures { result ≡ words.is_word word.now }

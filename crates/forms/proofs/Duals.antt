@@ -3,7 +3,7 @@ use Rattle.std.proofs.Common.{◌≡◌, ℕ, zero, suc, [], ◌∷◌, length, 
 use Rattle.std.specs.Prelude.{◌&&◌, ◌||◌, not}
 use Rattle.forms.specs.Word.{Word, Claim, same, some_suffix, every_suffix}
 use Rattle.forms.specs.Operators.{agree, next, weak_next, until, release, eventually, always}
-use Rattle.forms.specs.Paths.{Link, reaches, turns}
+use Rattle.forms.specs.Paths.{WordRelation, reaches, turns}
 
 -- both claims say the same of each word
 abbrev pub AreSame : Claim → Claim → Type 0
@@ -103,27 +103,27 @@ pub some_suffix-opposite : (f g : Claim) → AreOpposite f g → (w : Word) → 
 some_suffix-opposite f g e [] = e []
 some_suffix-opposite f g e (a ∷ w) = rw (e (a ∷ w), some_suffix-opposite f g e w) (not-and (g (a ∷ w)) (every_suffix g w))
 
--- links that lead to the same words, and claims that are the same there
-pub reaches-same : (q r : Link) (f g : Claim) → ((u v : Word) → q u v ≡ r u v) → AreSame f g → (u : Word) → reaches q f u ≡ reaches r g u
+-- relations that lead to the same words, and claims that are the same there
+pub reaches-same : (q r : WordRelation) (f g : Claim) → ((u v : Word) → q u v ≡ r u v) → AreSame f g → (u : Word) → reaches q f u ≡ reaches r g u
 unfolding reaches
 reaches-same q r f g d e u = some_suffix-same (λ v. q u v && f v) (λ v. r u v && g v) (λ v. rw (d u v, e v) refl) u
 
-pub turns-same : (n : ℕ) (q r : Link) → ((u v : Word) → q u v ≡ r u v) → (u v : Word) → turns n q u v ≡ turns n r u v
+pub turns-same : (n : ℕ) (q r : WordRelation) → ((u v : Word) → q u v ≡ r u v) → (u v : Word) → turns n q u v ≡ turns n r u v
 turns-same zero q r e u v = refl
 turns-same (suc n) q r e u v =
     ap (λ x. same u v || x)
     (some_suffix-same (λ m. nat_lt (length m) (length u) && (q u m && turns n q m v)) (λ m. nat_lt (length m) (length u) && (r u m && turns n r m v))
     (λ m. rw (e u m, turns-same n q r e m v) refl) u)
 
--- a box over links and claims that are a diamond's, the claims opposite
-pub box-opposite : (q r : Link) (f g : Claim) → ((u v : Word) → q u v ≡ r u v) → AreOpposite f g → (u : Word)
+-- a box over relations and claims that are a diamond's, the claims opposite
+pub box-opposite : (q r : WordRelation) (f g : Claim) → ((u v : Word) → q u v ≡ r u v) → AreOpposite f g → (u : Word)
     → every_suffix (λ v. not (q u v) || f v) u ≡ not (reaches r g u)
 unfolding reaches
 box-opposite q r f g d e u =
     every_suffix-opposite (λ v. not (q u v) || f v) (λ v. r u v && g v) (λ v. rw (d u v, e v) (not-and (r u v) (g v))) u
 
 -- and the other way round
-pub diamond-opposite : (q r : Link) (f g : Claim) → ((u v : Word) → q u v ≡ r u v) → AreOpposite f g → (u : Word)
+pub diamond-opposite : (q r : WordRelation) (f g : Claim) → ((u v : Word) → q u v ≡ r u v) → AreOpposite f g → (u : Word)
     → reaches q f u ≡ not (every_suffix (λ v. not (r u v) || g v) u)
 unfolding reaches
 diamond-opposite q r f g d e u =

@@ -12,7 +12,7 @@ use Rattle.forms.specs.Proper.{IsProper}
 use Rattle.forms.specs.Parts.{parts, part}
 use Rattle.forms.specs.Satisfaction.{sat, goes, meets}
 use Rattle.forms.specs.Verdict.{IsVerdict, PermTrue, PermFalse, TempTrue, TempFalse}
-use Rattle.forms.specs.Equivalence.{AreEquivalent, IsSeparated, HasClassCount}
+use Rattle.forms.specs.Equivalence.{AreEquivalent, AreDistinguishable, HasClassCount}
 
 abbrev a : Formula
 a = Atom 0
@@ -277,7 +277,7 @@ classes-whole = record {
   cover = one;
 }
   where
-    apart : (i j : ℕ) (d : Word) → i < j → j < 2 → IsSeparated 2 (meets 2 True) (get_or ([] ∷ (0 ∷ []) ∷ []) i d) (get_or ([] ∷ (0 ∷ []) ∷ []) j d)
+    apart : (i j : ℕ) (d : Word) → i < j → j < 2 → AreDistinguishable 2 (meets 2 True) (get_or ([] ∷ (0 ∷ []) ∷ []) i d) (get_or ([] ∷ (0 ∷ []) ∷ []) j d)
     apart zero zero d h k = absurd (omega arith)
     apart zero (suc zero) d h k = record { word = []; over = All-nil (λ x. x < 4); differ = λ e. false≢true e }
     apart zero (suc (suc j)) d h k = absurd (omega arith)

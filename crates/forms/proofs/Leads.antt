@@ -3,23 +3,23 @@ use Rattle.std.proofs.Common.{◌≡◌, ℕ, zero, suc, ◌<◌, ◌≤◌, [],
 use Rattle.std.specs.Prelude.{◌&&◌, ◌||◌}
 use Rattle.std.proofs.lemmas.Bool.{and_parts, and_from, or_cases, or_left, or_right, ltb-true}
 use Rattle.forms.specs.Word.{Word, Claim, IsSuffix, whole, later, same, some_suffix}
-use Rattle.forms.specs.Paths.{Link, reaches, one_step, turns, star}
+use Rattle.forms.specs.Paths.{WordRelation, reaches, one_step, turns, star}
 use Rattle.forms.specs.Tree.{Program, Step, Test, Choice, Seq, Star}
 use Rattle.forms.specs.Satisfaction.{goes}
 use Rattle.forms.proofs.Suffixes.{both_ways, IsSuffix-trans, some_suffix-find, some_suffix-from, same-refl, same-true}
 
--- a link that leads to ends alone
-abbrev pub IsInward : Link → Type 0
+-- a relation that leads to ends alone
+abbrev pub IsInward : WordRelation → Type 0
 IsInward q = (u v : Word) → q u v ≡ true → IsSuffix v u
 
-pub reaches-find : (q : Link) (k : Claim) (u : Word) → reaches q k u ≡ true → (v : Word) × IsSuffix v u × (q u v ≡ true) × (k v ≡ true)
+pub reaches-find : (q : WordRelation) (k : Claim) (u : Word) → reaches q k u ≡ true → (v : Word) × IsSuffix v u × (q u v ≡ true) × (k v ≡ true)
 unfolding reaches
 reaches-find q k u h =
     let r = some_suffix-find (λ v. q u v && k v) u h in
     let p = and_parts _ _ r.2 in
     (r.0, r.1, p.0, p.1)
 
-pub reaches-from : (q : Link) (k : Claim) (u v : Word) → IsSuffix v u → q u v ≡ true → k v ≡ true → reaches q k u ≡ true
+pub reaches-from : (q : WordRelation) (k : Claim) (u v : Word) → IsSuffix v u → q u v ≡ true → k v ≡ true → reaches q k u ≡ true
 unfolding reaches
 reaches-from q k u v d e f = some_suffix-from (λ v. q u v && k v) d (and_from _ _ e f)
 
@@ -33,10 +33,6 @@ reaches-step f k a w = both_ways _ _
     (λ h. let p = and_parts _ _ h in
     reaches-from (one_step f) k (a ∷ w) w (later whole) (and_from _ _ (same-refl w) p.0) p.1)
 
-pub reaches-step_empty : (f k : Claim) → reaches (one_step f) k [] ≡ false
-unfolding reaches
-reaches-step_empty f k = refl
-
 pub reaches-test : (f k : Claim) (u : Word) → reaches (λ u v. same u v && f u) k u ≡ (f u && k u)
 reaches-test f k u = both_ways _ _
     (λ h. let r = reaches-find (λ u v. same u v && f u) k u h in
@@ -47,7 +43,7 @@ reaches-test f k u = both_ways _ _
     (λ h. let p = and_parts _ _ h in
     reaches-from (λ u v. same u v && f u) k u u whole (and_from _ _ (same-refl u) p.0) p.1)
 
-pub reaches-choice : (q r : Link) (k : Claim) (u : Word) → reaches (λ u v. q u v || r u v) k u ≡ (reaches q k u || reaches r k u)
+pub reaches-choice : (q r : WordRelation) (k : Claim) (u : Word) → reaches (λ u v. q u v || r u v) k u ≡ (reaches q k u || reaches r k u)
 reaches-choice q r k u = both_ways _ _ split join
   where
     split : reaches (λ u v. q u v || r u v) k u ≡ true → (reaches q k u || reaches r k u) ≡ true
@@ -64,7 +60,7 @@ reaches-choice q r k u = both_ways _ _ split join
       | inr e ↦ (let t = reaches-find r k u e in reaches-from (λ u v. q u v || r u v) k u t.0 t.1 (or_right (q u t.0) _ t.2) t.3)
     ]
 
-pub reaches-seq : (q r : Link) (k : Claim) → IsInward r → (u : Word) → reaches (λ u v. reaches q (λ m. r m v) u) k u ≡ reaches q (λ m. reaches r k m) u
+pub reaches-seq : (q r : WordRelation) (k : Claim) → IsInward r → (u : Word) → reaches (λ u v. reaches q (λ m. r m v) u) k u ≡ reaches q (λ m. reaches r k m) u
 reaches-seq q r k inward u = both_ways _ _
     (λ h. let s = reaches-find (λ u v. reaches q (λ m. r m v) u) k u h in
     let t = reaches-find q (λ m. r m s.0) u s.2 in
@@ -74,7 +70,7 @@ reaches-seq q r k inward u = both_ways _ _
     reaches-from (λ u v. reaches q (λ m. r m v) u) k u t.0 (IsSuffix-trans t.1 s.1)
     (reaches-from q (λ m. r m t.0) u s.0 s.1 s.2 t.2) t.3)
 
-pub IsInward-turns : (n : ℕ) (q : Link) → IsInward (turns n q)
+pub IsInward-turns : (n : ℕ) (q : WordRelation) → IsInward (turns n q)
 IsInward-turns zero q u v h = let P : Word → Type 0 = λ x. IsSuffix x u in subst P (same-true u v h) whole
 IsInward-turns (suc n) q u v h = go (IsInward-turns n q) (or_cases _ _ h)
   where
@@ -87,7 +83,7 @@ IsInward-turns (suc n) q u v h = go (IsInward-turns n q) (or_cases _ _ h)
         IsSuffix-trans (further r.0 v s.1) r.1
 
 -- as many turns as the word has letters are enough
-pub turns-enough : (n m : ℕ) (q : Link) (u v : Word) → length u ≤ m → turns n q u v ≡ true → turns m q u v ≡ true
+pub turns-enough : (n m : ℕ) (q : WordRelation) (u v : Word) → length u ≤ m → turns n q u v ≡ true → turns m q u v ≡ true
 turns-enough zero zero q u v b h = h
 turns-enough zero (suc m) q u v b h = or_left _ _ h
 turns-enough (suc n) m q u v b h = go m b (λ k w c. turns-enough n k q w v c) (or_cases _ _ h)
@@ -110,11 +106,11 @@ turns-enough (suc n) m q u v b h = go m b (λ k w c. turns-enough n k q w v c) (
         or_right (same u v) _ (some_suffix-from (λ x. nat_lt (length x) (length u) && (q u x && turns m q x v)) r.1
         (and_from _ _ p.0 (and_from _ _ s.0 (further m r.0 fits s.1))))
 
-pub IsInward-star : (q : Link) → IsInward (star q)
+pub IsInward-star : (q : WordRelation) → IsInward (star q)
 IsInward-star q u v h = IsInward-turns (length u) q u v h
 
 -- v is u, or a turn that takes a letter leads to where v is reached
-pub star-unrolled : (q : Link) (u v : Word) → star q u v ≡ (same u v || some_suffix (λ m. nat_lt (length m) (length u) && (q u m && star q m v)) u)
+pub star-unrolled : (q : WordRelation) (u v : Word) → star q u v ≡ (same u v || some_suffix (λ m. nat_lt (length m) (length u) && (q u m && star q m v)) u)
 star-unrolled q u v = both_ways _ _
     (λ h. elim (or_cases _ _ (turns-enough (length u) (suc (length u)) q u v (omega arith) h)) [
       | inl e ↦ or_left _ _ e
@@ -135,7 +131,7 @@ star-unrolled q u v = both_ways _ _
     ]))
 
 -- the claim at the word itself, or beyond one turn that takes a letter
-pub reaches-star : (q : Link) (k : Claim) (u : Word) → reaches (star q) k u ≡ (k u || reaches q (λ m. nat_lt (length m) (length u) && reaches (star q) k m) u)
+pub reaches-star : (q : WordRelation) (k : Claim) (u : Word) → reaches (star q) k u ≡ (k u || reaches q (λ m. nat_lt (length m) (length u) && reaches (star q) k m) u)
 reaches-star q k u = both_ways _ _ split join
   where
     split : reaches (star q) k u ≡ true → (k u || reaches q (λ m. nat_lt (length m) (length u) && reaches (star q) k m) u) ≡ true

@@ -1,6 +1,6 @@
 pub mod Suffixes
 pub mod Leads
-pub mod Ahead
+pub mod Further
 pub mod PathRelation
 pub mod ShortlexLemmas
 pub mod Facts

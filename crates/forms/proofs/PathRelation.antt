@@ -3,13 +3,13 @@ use Rattle.std.proofs.Common.{◌≡◌, ℕ, zero, suc, ◌<◌, [], ◌∷◌,
 use Rattle.std.specs.Prelude.{◌&&◌, ◌||◌, not}
 use Rattle.std.proofs.lemmas.Bool.{and_parts, and_from, or_cases, or_left, or_right, ltb-true, lt-ltb}
 use Rattle.forms.specs.Word.{Word, Claim, same, some_suffix}
-use Rattle.forms.specs.Paths.{Link, turns, star}
+use Rattle.forms.specs.Paths.{WordRelation, turns, star}
 use Rattle.forms.specs.Tree.{Program, Step, Choice, Star}
 use Rattle.forms.specs.Satisfaction.{sat, goes}
-use Rattle.forms.specs.PathLaws.{DiamondHolds, BoxHolds, StepGoes, TestGoes, ChoiceGoes, SeqGoes, StarGoes, GoesToSuffixes, IsReflexive, IsTransitive, IsWithin, StarIsClosure}
+use Rattle.forms.specs.PathLaws.{DiamondHolds, BoxHolds, StepGoes, TestGoes, ChoiceGoes, SeqGoes, StarGoes, GoesToSuffixes, IsReflexive, IsTransitive, IsIncludedIn, StarIsClosure}
 use Rattle.forms.proofs.Suffixes.{some_suffix-find, some_suffix-from, every_suffix-at, every_suffix-from, same-refl, same-true}
 use Rattle.forms.proofs.Leads.{reaches-find, reaches-from, star-unrolled, IsInward-goes}
-use Rattle.forms.proofs.Ahead.{IsSuffix-cases}
+use Rattle.forms.proofs.Further.{IsSuffix-cases}
 
 pub goes_to_suffixes : GoesToSuffixes
 goes_to_suffixes p r u v h = IsInward-goes p r u v h
@@ -92,8 +92,8 @@ star_goes p q u v = (forth, back)
         star-unrolled (goes p q) u v
         ∙ or_right (same u v) _ (some_suffix-from (turn p q u v) (IsInward-goes p q u m h) (and_from _ _ (lt-ltb _ _ l) (and_from _ _ h k)))
 
--- what a link links in some turns, each reflexive and transitive link around it does
-turns-least : (n : ℕ) (q s : Link) → IsReflexive s → IsTransitive s → IsWithin q s → (u v : Word) → turns n q u v ≡ true → s u v ≡ true
+-- what a relation relates in some turns, each reflexive and transitive relation around it does
+turns-least : (n : ℕ) (q s : WordRelation) → IsReflexive s → IsTransitive s → IsIncludedIn q s → (u v : Word) → turns n q u v ≡ true → s u v ≡ true
 turns-least zero q s r t i u v h = let P : Word → Type 0 = λ x. s u x ≡ true in subst P (same-true u v h) (r u)
 turns-least (suc n) q s r t i u v h = go (λ m k. turns-least n q s r t i m v k) (or_cases _ _ h)
   where

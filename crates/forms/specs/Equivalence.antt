@@ -8,7 +8,7 @@ abbrev pub AreEquivalent : ℕ → Claim → Word → Word → Type 0
 AreEquivalent p f u v = (w : Word) → IsOver p w → f (u ++ w) ≡ f (v ++ w)
 
 -- after some continuation the claim holds of one of the two words alone, so they are not equivalent
-pub record IsSeparated (p : ℕ) (f : Claim) (u v : Word) : Type 0 where
+pub record AreDistinguishable (p : ℕ) (f : Claim) (u v : Word) : Type 0 where
   pub word : Word
   pub over : IsOver p word
   pub differ : f (u ++ word) ≢ f (v ++ word)
@@ -19,5 +19,5 @@ pub record HasClassCount (p : ℕ) (f : Claim) (n : ℕ) : Type 0 where
   pub words : List Word
   pub count : length words ≡ n
   pub over : All (IsOver p) words
-  pub differ : AllPairs (IsSeparated p f) words
+  pub differ : AllPairs (AreDistinguishable p f) words
   pub cover : (u : Word) → IsOver p u → Any (AreEquivalent p f u) words

@@ -8,6 +8,6 @@ pub mod Paths
 pub mod Satisfaction
 pub mod Verdict
 pub mod Equivalence
-pub mod Rows
+pub mod SatisfactionLaws
 pub mod PathLaws
 pub mod Normal

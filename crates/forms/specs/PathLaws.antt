@@ -1,7 +1,7 @@
 -- What the path relation says of each path program, and what formulas say of the suffixes that a path leads to.
 use Rattle.std.specs.Prelude.{◌≡◌, ◌⊎◌, ◌↔◌, ℕ, ◌<◌, ◌∷◌, length, IsTrue}
 use Rattle.forms.specs.Word.{Word, IsSuffix}
-use Rattle.forms.specs.Paths.{Link}
+use Rattle.forms.specs.Paths.{WordRelation}
 use Rattle.forms.specs.Tree.{Formula, Program, Diamond, BoxAll, Step, Test, Choice, Seq, Star}
 use Rattle.forms.specs.Satisfaction.{sat, goes}
 
@@ -45,24 +45,24 @@ StarGoes = (p : ℕ) (q : Program) (u v : Word)
 abbrev pub GoesToSuffixes : Type 0
 GoesToSuffixes = (p : ℕ) (r : Program) (u v : Word) → IsTrue (goes p r u v) → IsSuffix v u
 
--- each word is linked to itself
-abbrev pub IsReflexive : Link → Type 0
+-- each word is related to itself
+abbrev pub IsReflexive : WordRelation → Type 0
 IsReflexive q = (u : Word) → IsTrue (q u u)
 
--- two links in a row are one
-abbrev pub IsTransitive : Link → Type 0
+-- two relations in a row are one
+abbrev pub IsTransitive : WordRelation → Type 0
 IsTransitive q = (u m v : Word) → IsTrue (q u m) → IsTrue (q m v) → IsTrue (q u v)
 
--- what the first link links the second does
-abbrev pub IsWithin : Link → Link → Type 0
-IsWithin q r = (u v : Word) → IsTrue (q u v) → IsTrue (r u v)
+-- what the first relation relates the second does
+abbrev pub IsIncludedIn : WordRelation → WordRelation → Type 0
+IsIncludedIn q r = (u v : Word) → IsTrue (q u v) → IsTrue (r u v)
 
--- the second link is the reflexive and transitive closure of the first
-pub record IsClosureOf (q r : Link) : Type 0 where
+-- the second relation is the reflexive and transitive closure of the first
+pub record IsClosureOf (q r : WordRelation) : Type 0 where
   pub reflexive : IsReflexive r
   pub transitive : IsTransitive r
-  pub within : IsWithin q r
-  pub least : (s : Link) → IsReflexive s → IsTransitive s → IsWithin q s → IsWithin r s
+  pub within : IsIncludedIn q r
+  pub least : (s : WordRelation) → IsReflexive s → IsTransitive s → IsIncludedIn q s → IsIncludedIn r s
 
 -- a star is the reflexive and transitive closure of its path, turns that take no letter included
 abbrev pub StarIsClosure : Type 0

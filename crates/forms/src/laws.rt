@@ -1,28 +1,28 @@
 //! Laws of the definitions, each proved because the contract of a function here names it.
-ghost use Rattle.forms.specs.Rows.{TrueRow, FalseRow, AtomRow, NotRow, AndRow, OrRow, ImpliesRow, IffRow, NextRow, WeakNextRow, UntilRow, ReleaseRow, EventuallyRow, AlwaysRow, MeetsRow};
+ghost use Rattle.forms.specs.SatisfactionLaws.{TrueHolds, FalseHolds, AtomHolds, NotHolds, AndHolds, OrHolds, ImpliesHolds, IffHolds, NextHolds, WeakNextHolds, UntilHolds, ReleaseHolds, EventuallyHolds, AlwaysHolds, MeetsHolds};
 ghost use Rattle.forms.specs.PathLaws.{DiamondHolds, BoxHolds, StepGoes, TestGoes, ChoiceGoes, SeqGoes, StarGoes, GoesToSuffixes, StarIsClosure};
 ghost use Rattle.forms.specs.Normal.{NormalHolds, NegatedHolds, NormalGoes, NormalIsNormal};
 ghost use Rattle.forms.specs.Shortlex.{ShorterComesFirst, LesserLetterComesFirst, NeverBeforeItself, BeforeIsTransitive, OneComesFirst};
 
 /// The table of satisfaction, form by form (De Giacomo and Vardi 2013; the empty word is our own).
 pub fn laws_of_satisfaction()
-    ensures constant_true { TrueRow }
-    ensures constant_false { FalseRow }
-    ensures atom { AtomRow }
-    ensures not { NotRow }
-    ensures and { AndRow }
-    ensures or { OrRow }
-    ensures implies { ImpliesRow }
-    ensures iff { IffRow }
-    ensures next { NextRow }
-    ensures weak_next { WeakNextRow }
-    ensures until { UntilRow }
-    ensures release { ReleaseRow }
-    ensures eventually { EventuallyRow }
-    ensures always { AlwaysRow }
+    ensures constant_true { TrueHolds }
+    ensures constant_false { FalseHolds }
+    ensures atom { AtomHolds }
+    ensures not { NotHolds }
+    ensures and { AndHolds }
+    ensures or { OrHolds }
+    ensures implies { ImpliesHolds }
+    ensures iff { IffHolds }
+    ensures next { NextHolds }
+    ensures weak_next { WeakNextHolds }
+    ensures until { UntilHolds }
+    ensures release { ReleaseHolds }
+    ensures eventually { EventuallyHolds }
+    ensures always { AlwaysHolds }
     ensures diamond { DiamondHolds }
     ensures box_all { BoxHolds }
-    ensures meets { MeetsRow }
+    ensures meets { MeetsHolds }
 {}
 
 /// The path relation, path program by path program.

@@ -10,8 +10,6 @@ mod counts;
 mod form;
 mod laws;
 mod normal;
-#[cfg(test)]
-mod tests;
 
 pub use copies::copy;
 pub use counts::parts;

@@ -7,10 +7,10 @@ use Rattle.std.proofs.lemmas.List.FromFn.{get_or-map-range_with_len, length-map-
 use Rattle.std.proofs.lemmas.Bool.{cases_lt}
 use Rattle.forms.specs.Word.{Word, IsOver}
 use Rattle.automata.specs.Moves.{Moves, location_after, mark_after}
-use Rattle.minimise.specs.Least.{IsLeast}
+use Rattle.minimise.specs.Minimal.{IsLeast}
 use Rattle.forms.specs.Word.{Claim}
-use Rattle.forms.specs.Equivalence.{AreEquivalent, IsSeparated}
-use Rattle.minimise.specs.Least.{Decides, SizeIsClassCount}
+use Rattle.forms.specs.Equivalence.{AreEquivalent, AreDistinguishable}
+use Rattle.minimise.specs.Minimal.{Decides, SizeIsClassCount}
 use Rattle.automata.proofs.Words.{over-append, location_after-append, location_after-within}
 
 -- a word that leads to the location, if it is one
@@ -37,7 +37,7 @@ claim-append p m f d u w h k at e =
     ∙ ap (λ x. m.mark x == 1) (location_after-append m m.first u w ∙ ap (λ x. location_after m x w) e)
 
 separated : (p : ℕ) (m : Moves) (f : Claim) → IsLeast p m → Decides p m f → (i j : ℕ) → i < m.size → j < m.size → i ≢ j
-    → (u v : Word) → IsOver p u → IsOver p v → location_after m m.first u ≡ i → location_after m m.first v ≡ j → IsSeparated p f u v
+    → (u v : Word) → IsOver p u → IsOver p v → location_after m m.first u ≡ i → location_after m m.first v ≡ j → AreDistinguishable p f u v
 separated p m f l d i j h k n u v o q e g =
     let t = l.apart i j h k n in
     record {
@@ -67,7 +67,7 @@ words_of-over : (p : ℕ) (m : Moves) (l : IsLeast p m) → All (IsOver p) (word
 unfolding words_of word_of
 words_of-over p m l = All-map (IsOver p) (word_of p m l) (range_with_len 0 m.size) (λ k e h. (named p m l _).over)
 
-words_of-differ : (p : ℕ) (m : Moves) (f : Claim) (l : IsLeast p m) → Decides p m f → AllPairs (IsSeparated p f) (words_of p m l)
+words_of-differ : (p : ℕ) (m : Moves) (f : Claim) (l : IsLeast p m) → Decides p m f → AllPairs (AreDistinguishable p f) (words_of p m l)
 unfolding word_of
 words_of-differ p m f l d i j e h k =
     let k2 : j < m.size = subst (λ n. j < n) (words_of-length p m l) k in

@@ -1,24 +1,24 @@
 -- Rows and blocks that rounds of division go on from.
-use Rattle.std.proofs.Common.{◌≡◌, ◌<◌, ◌≤◌, ◌+◌, ◌++◌, ◌⊎◌, ℕ, zero, suc, List, [], ◌∷◌, Option, Some, None, refl, sym, ◌∙◌, ap, arith, inl, inr, length, length-append, unwrap_or, if◌then◌else◌, map}
-use Rattle.std.specs.Prelude.{slice_index, slice_index_or, Contains}
+use Rattle.std.proofs.Common.{◌≡◌, ◌<◌, ◌≤◌, ◌+◌, ◌++◌, ◌⊎◌, ℕ, suc, List, [], ◌∷◌, Option, Some, None, refl, sym, ◌∙◌, ap, arith, inl, inr, length, length-append, unwrap_or, if◌then◌else◌, map}
+use Rattle.std.specs.Prelude.{slice_index, slice_index_or}
 use Rattle.std.specs.HashMap.{HashMap, get}
 use Rattle.std.proofs.lemmas.Bool.{cases_Bool}
 use Rattle.std.proofs.lemmas.List.{get_or_append_left, get_or_at, length-map, map-append}
 use Rattle.diagrams.specs.declared.top.Id.{Id}
-use Rattle.diagrams.specs.Eval.{Diagrams, eval, letter_truth}
+use Rattle.diagrams.specs.Eval.{Diagrams, eval, letter_truth, id_at}
 use Rattle.diagrams.specs.Live.{IsLive, Keeps, Means}
 use Rattle.diagrams.specs.Terminals.{AreTerminals}
-use Rattle.diagrams.specs.Turned.{item_value}
+use Rattle.diagrams.specs.Transformed.{Transforms, IsTableItem, item_value}
 use Rattle.diagrams.proofs.Meaning.{eval-lasts, means_lasts}
 use Rattle.automata.specs.Table.{Table, size_of, mark_of, row_of, IsRow, Fits, moves_of}
 use Rattle.automata.proofs.FindingLemmas.{place_cases}
-use Rattle.automata.proofs.FoundLists.{push_before, push_at, length_push}
+use Rattle.automata.proofs.FoundLists.{contains_place}
 use Rattle.automata.proofs.Lasts.{fits_lasts}
 use Rattle.automata.proofs.Letters.{spelt, spelt-less, spelt-truth}
 use Rattle.automata.proofs.RenumberLemmas.{fits_closed}
 use Rattle.minimise.specs.declared.blocks.Key.{Key}
 use Rattle.minimise.specs.Blocks.{same_key}
-use Rattle.minimise.specs.Divisions.{id_at, AreBlockRows, IsDivision, AreTargets, targets_at, IsDividedInRounds}
+use Rattle.minimise.specs.Divisions.{AreBlockRows, IsDivision, AreTargets, targets_at, IsDividedInRounds}
 use Rattle.minimise.proofs.PartitionLemmas.{key_true, key_same}
 use Rattle.minimise.proofs.RefineLemmas.{round_lasts}
 use Rattle.minimise.proofs.RoundLemmas.{round_divides, one_block_divides}
@@ -26,13 +26,14 @@ use Rattle.minimise.proofs.RowLemmas.{GoesByRows, rows_make_round}
 
 -- reading a list with one more item
 pub item_before : {A : Type 0} → (xs : List A) (x d : A) (i : ℕ) → i < length xs → slice_index_or (xs ++ x ∷ []) i d ≡ slice_index_or xs i d
-item_before [] x d i h = absurd (omega (arith, h))
-item_before (y ∷ xs) x d zero h = refl
-item_before (y ∷ xs) x d (suc i) h = item_before xs x d i (omega (arith, h))
+item_before xs x d i h = get_or_append_left xs (x ∷ []) d i h
 
 pub item_last : {A : Type 0} → (xs : List A) (x d : A) → slice_index_or (xs ++ x ∷ []) (length xs) d ≡ x
-item_last [] x d = refl
-item_last (y ∷ xs) x d = item_last xs x d
+item_last xs x d = get_or_at xs x [] d (length xs) refl
+
+-- what is made of f by a list of blocks means so
+pub transforms_means : (s n : Diagrams) (blocks : List ℕ) (f i : Id) → Transforms s n (IsTableItem blocks) f i → Means n i (item_value s blocks f)
+transforms_means s n blocks f i t = record { live = t.live; value = t.value }
 
 -- no row at all
 pub rows_none : (s : Diagrams) (t : Table) (blocks : List ℕ) (rows : List Id) → rows ≡ [] → AreBlockRows s s t blocks rows 0
@@ -123,17 +124,17 @@ pub dividing_more : {S : Type 0} → (t : Table) (rows : List Id) (old new : Has
     → ((other : Key) → get same_key new other ≡ (if same_key (key_of t rows at) other then Some x else get same_key old other))
     → IsDividing t rows new (blocks ++ x ∷ []) (at + 1)
 dividing_more t rows old new blocks at x d e up = record {
-  size = length_push blocks x ∙ ap (λ z. z + 1) d.size;
+  size = length-append blocks (x ∷ []) ∙ ap (λ z. z + 1) d.size;
   low = λ i l. elim (place_cases i at l) [
-    | inl h ↦ rw (push_before blocks x i (rw (d.size) h)) (d.low i h)
+    | inl h ↦ rw (get_or_append_left blocks (x ∷ []) 0 i (rw (d.size) h)) (d.low i h)
     | inr h ↦ rw (h, last) f.low
   ];
   key = λ i l. elim (place_cases i at l) [
-    | inl h ↦ ap (key_of t rows) (push_before blocks x i (rw (d.size) h)) ∙ d.key i h
+    | inl h ↦ ap (key_of t rows) (get_or_append_left blocks (x ∷ []) 0 i (rw (d.size) h)) ∙ d.key i h
     | inr h ↦ rw (h) (ap (key_of t rows) last ∙ f.key)
   ];
   known = λ i l. elim (place_cases i at l) [
-    | inl h ↦ before i h ∙ ap Some (sym (push_before blocks x i (rw (d.size) h)))
+    | inl h ↦ before i h ∙ ap Some (sym (get_or_append_left blocks (x ∷ []) 0 i (rw (d.size) h)))
     | inr h ↦ rw (h) (up (key_of t rows at) ∙ ap (λ b. if b then Some x else get same_key old (key_of t rows at)) (key_same (key_of t rows at)) ∙ ap Some (sym last))
   ];
   right = λ k y q. elim (cases_Bool (same_key (key_of t rows at) k)) [
@@ -151,7 +152,7 @@ dividing_more t rows old new blocks at x d e up = record {
     f = first_found t rows old blocks at x d e
 
     last : slice_index (blocks ++ x ∷ []) at ≡ x
-    last = rw (← d.size) (push_at blocks x)
+    last = rw (← d.size) (get_or_at blocks x [] 0 (length blocks) refl)
 
     before : (i : ℕ) → i < at → get same_key new (key_of t rows i) ≡ Some (slice_index blocks i)
     before i h = elim (cases_Bool (same_key (key_of t rows at) (key_of t rows i))) [
@@ -182,12 +183,6 @@ division_goes t rows blocks d = record {
       (sym x.0 ∙ ap (mark_of t) e ∙ y.0, sym x.1 ∙ ap (id_at rows) e ∙ y.1);
   apart = λ i j h l e q. d.one i j h l (e, q);
 }
-
--- a contained location has a place
-contains_place : (xs : List ℕ) (x : ℕ) → Contains xs x → (k : ℕ) × (k < length xs) × (slice_index xs k ≡ x)
-contains_place [] x (k, l, e) = absurd (omega (arith, l))
-contains_place (y ∷ xs) x (zero, l, e) = (0, l, e)
-contains_place (y ∷ xs) x (suc k, l, e) = let r = contains_place xs x (k, omega (arith, l), e) in (suc r.0, omega (arith, r.1), r.2)
 
 -- the terminals of a row are its targets
 pub terminals_are_targets : (s : Diagrams) (size : ℕ) (f : Id) (xs : List ℕ) → IsRow s size f → AreTerminals s f xs → AreTargets s size f xs

@@ -3,11 +3,9 @@ pub mod PartitionLemmas
 pub mod RoundLemmas
 pub mod QuotientLemmas
 pub mod RowLemmas
-pub mod RelabelLemmas
 pub mod RefineLemmas
 pub mod DivisionLemmas
 pub mod Counts
 pub mod Once
 pub mod Smallest
 pub mod Unique
-pub mod TestLemmas

@@ -5,7 +5,7 @@ use Rattle.std.proofs.lemmas.List.{get_or_default}
 use Rattle.forms.specs.Word.{Word}
 use Rattle.forms.specs.Word.{Claim}
 use Rattle.forms.specs.Equivalence.{AreEquivalent, HasClassCount}
-use Rattle.minimise.specs.Least.{ClassCountIsOne}
+use Rattle.minimise.specs.Minimal.{ClassCountIsOne}
 use Rattle.automata.proofs.Pigeon.{no_more_than}
 
 -- the word among b's that is equivalent to word i of a

@@ -2,13 +2,13 @@
 use Rattle.std.proofs.Common.{◌≡◌, ◌<◌, ◌≤◌, ◌+◌, ◌⊎◌, ◌++◌, ℕ, zero, suc, List, [], ◌∷◌, Bool, true, Some, refl, sym, ◌∙◌, ap, subst, arith, inl, inr, length, length-append, true≢false, add-one, get_or, if◌then◌else◌}
 use Rattle.std.specs.Prelude.{slice_get, slice_index}
 use Rattle.std.specs.List.{list_any}
+use Rattle.std.proofs.lemmas.List.{get_or_append_left, get_or_at}
 use Rattle.std.proofs.lemmas.Bool.{cases_Bool, cases_lt, and_parts, eqb-true, or_left, or_right}
 use Rattle.indexmap.specs.IndexSet.{insert_key}
 use Rattle.minimise.specs.declared.blocks.Key.{Key}
 use Rattle.minimise.specs.Blocks.{blocks_among, IsInOrder, same_key, IsPartition}
 use Rattle.minimise.proofs.BlockLemmas.{among-new, among-old, blocks_are_few}
 use Rattle.automata.proofs.FindingLemmas.{place_cases}
-use Rattle.automata.proofs.FoundLists.{push_before, push_at, length_push}
 
 -- keys that are the same are equal
 pub key_true : (x y : Key) → same_key x y ≡ true → x ≡ y
@@ -80,22 +80,22 @@ among_same f g (suc n) e =
 order_more : (bs : List ℕ) (b : ℕ) → IsInOrder (slice_index bs) (length bs) → b ≤ blocks_among (slice_index bs) (length bs)
     → IsInOrder (slice_index (bs ++ b ∷ [])) (length bs + 1)
 order_more bs b o h i l = elim (place_cases i (length bs) l) [
-  | inl x ↦ rw (push_before bs b i x, among_same (slice_index (bs ++ b ∷ [])) (slice_index bs) i (λ j k. push_before bs b j (omega (arith, k, x)))) (o i x)
-  | inr x ↦ rw (x, push_at bs b, among_same (slice_index (bs ++ b ∷ [])) (slice_index bs) (length bs) (λ j k. push_before bs b j k)) h
+  | inl x ↦ rw (get_or_append_left bs (b ∷ []) 0 i x, among_same (slice_index (bs ++ b ∷ [])) (slice_index bs) i (λ j k. get_or_append_left bs (b ∷ []) 0 j (omega (arith, k, x)))) (o i x)
+  | inr x ↦ rw (x, get_or_at bs b [] 0 (length bs) refl, among_same (slice_index (bs ++ b ∷ [])) (slice_index bs) (length bs) (λ j k. get_or_append_left bs (b ∷ []) 0 j k)) h
 ]
 
 same_among : (bs : List ℕ) (b : ℕ) → blocks_among (slice_index (bs ++ b ∷ [])) (length bs) ≡ blocks_among (slice_index bs) (length bs)
-same_among bs b = among_same (slice_index (bs ++ b ∷ [])) (slice_index bs) (length bs) (λ j k. push_before bs b j k)
+same_among bs b = among_same (slice_index (bs ++ b ∷ [])) (slice_index bs) (length bs) (λ j k. get_or_append_left bs (b ∷ []) 0 j k)
 
 among_old : (bs : List ℕ) (b : ℕ) → b < blocks_among (slice_index bs) (length bs)
     → blocks_among (slice_index (bs ++ b ∷ [])) (suc (length bs)) ≡ blocks_among (slice_index bs) (length bs)
 among_old bs b h =
-    among-old (slice_index (bs ++ b ∷ [])) (length bs) (rw (push_at bs b, same_among bs b) h) ∙ same_among bs b
+    among-old (slice_index (bs ++ b ∷ [])) (length bs) (rw (get_or_at bs b [] 0 (length bs) refl, same_among bs b) h) ∙ same_among bs b
 
 among_new : (bs : List ℕ) (b : ℕ) → b ≡ blocks_among (slice_index bs) (length bs)
     → blocks_among (slice_index (bs ++ b ∷ [])) (suc (length bs)) ≡ suc (blocks_among (slice_index bs) (length bs))
 among_new bs b h =
-    among-new (slice_index (bs ++ b ∷ [])) (length bs) (push_at bs b ∙ h ∙ sym (same_among bs b)) ∙ ap suc (same_among bs b)
+    among-new (slice_index (bs ++ b ∷ [])) (length bs) (get_or_at bs b [] 0 (length bs) refl ∙ h ∙ sym (same_among bs b)) ∙ ap suc (same_among bs b)
 
 keys_more : (keys : List Key) (bs : List ℕ) (old new : List Key) (b : ℕ) (key : Key) (count : ℕ) → length bs ≡ count
     → ((i : ℕ) → i < count → slice_get old (slice_index bs i) ≡ slice_get keys i)
@@ -106,8 +106,8 @@ keys_more : (keys : List Key) (bs : List ℕ) (old new : List Key) (b : ℕ) (ke
 keys_more keys bs old new b key count e f lasts at here some i l = elim (place_cases i count l) [
   | inl h ↦
       let k = some i h in
-      ap (slice_get new) (push_before bs b i (rw (e) h)) ∙ lasts (slice_index bs i) k.0 (f i h ∙ k.1) ∙ sym k.1
-  | inr h ↦ ap (slice_get new) (ap (slice_index (bs ++ b ∷ [])) (h ∙ sym e) ∙ push_at bs b) ∙ here ∙ sym (ap (slice_get keys) h ∙ at)
+      ap (slice_get new) (get_or_append_left bs (b ∷ []) 0 i (rw (e) h)) ∙ lasts (slice_index bs i) k.0 (f i h ∙ k.1) ∙ sym k.1
+  | inr h ↦ ap (slice_get new) (ap (slice_index (bs ++ b ∷ [])) (h ∙ sym e) ∙ get_or_at bs b [] 0 (length bs) refl) ∙ here ∙ sym (ap (slice_get keys) h ∙ at)
 ]
 
 -- a key within the list
@@ -148,7 +148,7 @@ partition_more keys bs old new count key b p h at e here =
       | inl q ↦
           let l : b < blocks_among (slice_index bs) (length bs) = let w = get-within old b key q.1 in rw (p.size, p.number) w in
           record {
-            size = length_push bs b ∙ ap (λ z. z + 1) p.size;
+            size = length-append bs (b ∷ []) ∙ ap (λ z. z + 1) p.size;
             key = keys_more keys bs old new b key count p.size p.key (λ j k z. ap (λ ks. slice_get ks j) q.0 ∙ z) at here some;
             once = subst (λ ks. (a c : ℕ) (k : Key) → slice_get ks a ≡ Some k → slice_get ks c ≡ Some k → a ≡ c) (sym q.0) p.once;
             order = subst (λ n. IsInOrder (slice_index (bs ++ b ∷ [])) (n + 1)) p.size (order_more bs b order (omega (arith, l)));
@@ -157,7 +157,7 @@ partition_more keys bs old new count key b p h at e here =
       | inr q ↦
           let l : b ≡ blocks_among (slice_index bs) (length bs) = q.1 ∙ sym number in
           record {
-            size = length_push bs b ∙ ap (λ z. z + 1) p.size;
+            size = length-append bs (b ∷ []) ∙ ap (λ z. z + 1) p.size;
             key = keys_more keys bs old new b key count p.size p.key (λ j k z. ap (λ ks. slice_get ks j) q.0 ∙ push_lasts old key j k z) at here some;
             once = subst (λ ks. (a c : ℕ) (k : Key) → slice_get ks a ≡ Some k → slice_get ks c ≡ Some k → a ≡ c) (sym q.0) (push_once old key p.once q.2);
             order = subst (λ n. IsInOrder (slice_index (bs ++ b ∷ [])) (n + 1)) p.size (order_more bs b order (omega (arith, l)));

@@ -1,11 +1,11 @@
 -- From divided locations to the least automaton.
 use Rattle.std.proofs.Common.{◌≡◌, ◌<◌, ◌≢◌, ◌^◌, ℕ, [], ◌∷◌, refl, sym, ◌∙◌, ap}
 use Rattle.forms.specs.Word.{Word, IsOver}
-use Rattle.automata.specs.Moves.{Moves, location_after, mark_after, AgreeOnMarks, IsClosed, AreDistinguished}
+use Rattle.automata.specs.Moves.{Moves, location_after, mark_after, HaveSameMarksOver, IsClosed, AreDistinguished}
 use Rattle.automata.specs.Numbering.{IsNumbered}
-use Rattle.automata.specs.Renamed.{IsPartOf}
+use Rattle.automata.specs.Subautomaton.{IsSubautomaton}
 use Rattle.automata.proofs.Words.{over-head, over-tail, location_after-within, mark_after-part}
-use Rattle.minimise.specs.Least.{IsLeast}
+use Rattle.minimise.specs.Minimal.{IsLeast}
 use Rattle.minimise.specs.Rounds.{IsDivided}
 
 -- each location of q is a block of m, with its mark and its targets
@@ -28,7 +28,7 @@ block-mark p m q block c s i w h o =
     ap q.mark (block-after p m q block c s i w h o) ∙ s.mark (location_after m i w) (location_after-within p m c i w h o)
 
 apart : (p : ℕ) (m q n : Moves) (k : ℕ) (block : ℕ → ℕ) → IsClosed p m → IsDivided p m k block → IsQuotient p m q block
-    → IsPartOf p q n → (i j : ℕ) → i < n.size → j < n.size → i ≢ j → AreDistinguished p n i j
+    → IsSubautomaton p q n → (i j : ℕ) → i < n.size → j < n.size → i ≢ j → AreDistinguished p n i j
 apart p m q n k block c d s f i j h l e =
     let x = s.member (f.of i) (f.within i h) in
     let y = s.member (f.of j) (f.within j l) in
@@ -48,7 +48,7 @@ apart p m q n k block c d s f i j h l e =
 
 -- the reached blocks of divided locations are the least automaton
 pub divided_is_least : (p : ℕ) (m q n : Moves) (k : ℕ) (block : ℕ → ℕ) → IsClosed p m → IsDivided p m k block → IsQuotient p m q block
-    → IsPartOf p q n → IsNumbered p n → IsLeast p n
+    → IsSubautomaton p q n → IsNumbered p n → IsLeast p n
 divided_is_least p m q n k block c d s f a = record {
   closed = f.closed;
   reached = λ at h. let w = a.least at h in record { word = a.word at; over = w.over; leads = w.leads };
@@ -56,5 +56,5 @@ divided_is_least p m q n k block c d s f a = record {
 }
 
 -- the blocks have the marks of the automaton that was divided
-pub quotient_marks : (p : ℕ) (m q : Moves) (block : ℕ → ℕ) → IsClosed p m → IsQuotient p m q block → AgreeOnMarks p q m
+pub quotient_marks : (p : ℕ) (m q : Moves) (block : ℕ → ℕ) → IsClosed p m → IsQuotient p m q block → HaveSameMarksOver p q m
 quotient_marks p m q block c s w o = ap (λ z. mark_after q z w) s.first ∙ block-mark p m q block c s m.first w c.first o

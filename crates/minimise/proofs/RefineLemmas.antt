@@ -3,8 +3,8 @@ use Rattle.std.proofs.Common.{◌≡◌, ◌<◌, ◌≤◌, ◌+◌, ◌++◌, 
 use Rattle.std.specs.Prelude.{slice_get, slice_index, slice_index_or, IfOk}
 use Rattle.diagrams.specs.declared.top.Id.{Id}
 use Rattle.diagrams.specs.Eval.{Diagrams, eval, letter_truth}
-use Rattle.diagrams.specs.Live.{Keeps, Means}
-use Rattle.diagrams.proofs.Meaning.{eval-lasts, live_lasts, Keeps_trans}
+use Rattle.diagrams.specs.Live.{Keeps}
+use Rattle.diagrams.proofs.Meaning.{eval-lasts, Keeps_trans}
 use Rattle.automata.specs.Table.{Table, size_of, mark_of, row_of, IsRow, Fits, moves_of}
 use Rattle.automata.proofs.Lasts.{fits_lasts, next_of-lasts}
 use Rattle.minimise.specs.declared.blocks.Key.{Key}
@@ -19,8 +19,8 @@ use Rattle.automata.proofs.FindingLemmas.{place_cases}
 use Rattle.automata.proofs.RenumberLemmas.{fits_closed, same_marks}
 use Rattle.automata.specs.Moves.{HaveSameMarks}
 use Rattle.automata.specs.Numbering.{IsNumbered}
-use Rattle.automata.specs.Renamed.{IsPartOf}
-use Rattle.minimise.specs.Least.{IsLeast}
+use Rattle.automata.specs.Subautomaton.{IsSubautomaton}
+use Rattle.minimise.specs.Minimal.{IsLeast}
 
 abbrev id_in : Option Key → Id
 id_in None = record { 0 = 0 }
@@ -217,35 +217,20 @@ key_before : (ks : List Key) (x : Key) (i : ℕ) (k : Key) → slice_get ks i �
 key_before ks x i k e = get-push_before ks x i (get-within ks i k e) ∙ e
 
 -- no key at all
-pub keys_none : (s : Diagrams) (t : Table) (blocks : List ℕ) (keys : List Key) → keys ≡ [] → AreKeys s s t blocks keys 0
-keys_none s t blocks keys e = record { size = ap length e; key = λ at h. absurd (omega (arith, h)) }
+pub keys_none : (s n : Diagrams) (t : Table) (blocks : List ℕ) (keys : List Key) → keys ≡ [] → AreKeys s n t blocks keys 0
+keys_none s n t blocks keys e = record { size = ap length e; key = λ at h. absurd (omega (arith, h)) }
 
 -- one more key
-pub keys_more : (s n after : Diagrams) (t : Table) (blocks : List ℕ) (keys : List Key) (count x : ℕ) (row id : Id) → Keeps s n → Keeps n after → Fits s t → count < size_of t
-    → AreKeys s n t blocks keys count → x ≡ mark_of t count → row ≡ row_of t count → Means after id (λ a. slice_index blocks (eval n row a))
-    → AreKeys s after t blocks (keys ++ record { mark = x; row = id } ∷ []) (count + 1)
-keys_more s n after t blocks keys count x row id keeps grows f within k e r m = record {
+pub keys_more : (s n : Diagrams) (t : Table) (blocks : List ℕ) (keys : List Key) (count x : ℕ) (id : Id) → AreKeys s n t blocks keys count → x ≡ mark_of t count
+    → IsRelabelled s n t blocks count id → AreKeys s n t blocks (keys ++ record { mark = x; row = id } ∷ []) (count + 1)
+keys_more s n t blocks keys count x id k e m = record {
   size = length-append keys _ ∙ ap (λ z. z + 1) k.size;
   key = λ i l. elim (place_cases i count l) [
-    | inl h ↦
-        let y = k.key i h in (
-          y.0,
-          key_before keys _ i _ y.1,
-          record {
-            live = live_lasts n after grows.extends y.0 y.2.live;
-            value = λ a. eval-lasts n after grows.was grows.now grows.extends y.0 y.2.live a ∙ y.2.value a;
-          },
-        )
+    | inl h ↦ let y = k.key i h in (y.0, key_before keys _ i _ y.1, y.2)
     | inr h ↦ (
       id,
       ap (slice_get (keys ++ record { mark = x; row = id } ∷ [])) (h ∙ sym k.size) ∙ get-push_at keys _ ∙ (λ d. Some (record { mark = (e ∙ ap (mark_of t) (sym h)) d; row = id })),
-      record {
-        live = m.live;
-        value = λ a.
-            m.value a
-            ∙ ap (λ z. slice_index blocks (eval n z a)) (r ∙ ap (row_of t) (sym h))
-            ∙ ap (slice_index blocks) (row-lasts s n t keeps f i (rw (h) within) a);
-      },
+      rw (h) m,
     )
   ];
 }
@@ -271,12 +256,12 @@ refined_within s n t blocks kinds r i h = rw (← r.partition.number) (within (s
 -- what is renumbered is least, with the marks of the automaton that was divided
 pub least_ok : {E : Type 0} (s n after : Diagrams) (t q : Table) (blocks : List ℕ) (kinds : List Key) → t.first < size_of t → Fits s t → Keeps s n → Keeps n after
     → IsRefined s n t blocks kinds → IsQuotient s.props (moves_of s t) (moves_of n q) (slice_index blocks) → (r : Result Table E)
-    → IfOk r (λ u. IsPartOf n.props (moves_of n q) (moves_of after u)) → IfOk r (λ u. IsNumbered n.props (moves_of after u))
+    → IfOk r (λ u. IsSubautomaton n.props (moves_of n q) (moves_of after u)) → IfOk r (λ u. IsNumbered n.props (moves_of after u))
     → IfOk r (λ u. IsLeast s.props (moves_of after u))
 least_ok s n after t q blocks kinds first f k grows r c (Err e) a b = tt
 least_ok s n after t q blocks kinds first f k grows r c (Ok u) a b =
     divided_is_least s.props (moves_of s t) (moves_of n q) (moves_of after u) r.rounds (slice_index blocks) (fits_closed s t first f) r.divided c
-    (subst (λ p. IsPartOf p (moves_of n q) (moves_of after u)) k.extends.props a)
+    (subst (λ p. IsSubautomaton p (moves_of n q) (moves_of after u)) k.extends.props a)
     (subst (λ p. IsNumbered p (moves_of after u)) k.extends.props b)
 
 pub marks_ok : {E : Type 0} (s n after : Diagrams) (t q : Table) (blocks : List ℕ) → t.first < size_of t → q.first < size_of q → Fits s t → Fits n q → Keeps s n

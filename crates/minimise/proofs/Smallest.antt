@@ -1,7 +1,7 @@
 -- A least automaton has no more locations than any other with its marks.
 use Rattle.std.proofs.Common.{◌≢◌, ℕ, ◌<◌, ◌++◌, sym, ◌∙◌, ap, arith}
 use Rattle.automata.specs.Moves.{location_after, mark_after}
-use Rattle.minimise.specs.Least.{LeastIsSmallest}
+use Rattle.minimise.specs.Minimal.{LeastIsSmallest}
 use Rattle.automata.proofs.Words.{over-append, location_after-append, location_after-within}
 use Rattle.minimise.proofs.Counts.{named}
 use Rattle.automata.proofs.Pigeon.{no_more_than}

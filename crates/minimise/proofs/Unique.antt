@@ -1,14 +1,13 @@
 -- There is one numbered least automaton for each set of marks.
-use Rattle.std.proofs.Common.{◌≡◌, ℕ, zero, suc, ◌<◌, ◌≤◌, ◌^◌, [], ◌∷◌, ◌++◌, refl, sym, ◌∙◌, ap, arith, length, inl, inr, true, false}
-use Rattle.std.proofs.lemmas.Bool.{cases_eq, cases_order, eqb-true, or_parts, or_cases, and_parts, and_cases, ltb-true, ltb-false, true≢false, eqb-false}
+use Rattle.std.proofs.Common.{◌≡◌, ℕ, zero, suc, ◌<◌, ◌≤◌, ◌^◌, [], ◌∷◌, ◌++◌, refl, sym, ◌∙◌, ap, arith, inl, inr}
+use Rattle.std.proofs.lemmas.Bool.{cases_eq, cases_order}
 use Rattle.std.proofs.lemmas.List.Elements.{All-cons, All-nil}
 use Rattle.forms.specs.Word.{Word, IsOver}
-use Rattle.forms.specs.Shortlex.{comes_before}
 use Rattle.forms.proofs.ShortlexLemmas.{before-neither}
 use Rattle.automata.proofs.Order.{before-once}
-use Rattle.automata.specs.Moves.{Moves, location_after, mark_after, AgreeOnMarks}
+use Rattle.automata.specs.Moves.{Moves, location_after, HaveSameMarksOver}
 use Rattle.automata.specs.Numbering.{IsNumbered}
-use Rattle.minimise.specs.Least.{IsLeast, LeastIsUnique}
+use Rattle.minimise.specs.Minimal.{IsLeast, LeastIsUnique}
 use Rattle.automata.proofs.Words.{over-append, location_after-append, location_after-within}
 
 -- the location of n to which the word of a location of m leads
@@ -16,7 +15,7 @@ abbrev across : (p : ℕ) (m n : Moves) → IsNumbered p m → ℕ → ℕ
 across p m n a i = location_after n n.first (a.word i)
 
 -- words that lead to one location of m lead to one location of n
-same_target : (p : ℕ) (m n : Moves) → IsLeast p n → AgreeOnMarks p m n → (u v : Word) → IsOver p u → IsOver p v
+same_target : (p : ℕ) (m n : Moves) → IsLeast p n → HaveSameMarksOver p m n → (u v : Word) → IsOver p u → IsOver p v
     → location_after m m.first u ≡ location_after m m.first v → location_after n n.first u ≡ location_after n n.first v
 same_target p m n l alike u v h k e =
     elim (cases_eq (location_after n n.first u) (location_after n n.first v)) [
@@ -34,7 +33,7 @@ same_target p m n l alike u v h k e =
     ]
 
 -- the least word of a location of m is the least word of the location across
-same_word : (p : ℕ) (m n : Moves) → IsLeast p m → (a : IsNumbered p m) → IsLeast p n → (b : IsNumbered p n) → AgreeOnMarks p m n → AgreeOnMarks p n m
+same_word : (p : ℕ) (m n : Moves) → IsLeast p m → (a : IsNumbered p m) → IsLeast p n → (b : IsNumbered p n) → HaveSameMarksOver p m n → HaveSameMarksOver p n m
     → (i : ℕ) → i < m.size → a.word i ≡ b.word (across p m n a i)
 same_word p m n l a g b alike ekila i h =
     let x = a.least i h in
@@ -44,7 +43,7 @@ same_word p m n l a g b alike ekila i h =
     same_target p n m l ekila (b.word (across p m n a i)) (a.word i) y.over x.over y.leads ∙ x.leads in
     before-neither (a.word i) (b.word (across p m n a i)) (y.least (a.word i) x.over refl) (x.least (b.word (across p m n a i)) y.over back)
 
-rises : (p : ℕ) (m n : Moves) → IsLeast p m → (a : IsNumbered p m) → IsLeast p n → (b : IsNumbered p n) → AgreeOnMarks p m n → AgreeOnMarks p n m
+rises : (p : ℕ) (m n : Moves) → IsLeast p m → (a : IsNumbered p m) → IsLeast p n → (b : IsNumbered p n) → HaveSameMarksOver p m n → HaveSameMarksOver p n m
     → (i j : ℕ) → i < j → j < m.size → across p m n a i < across p m n a j
 rises p m n l a g b alike ekila i j h k =
     let i2 : i < m.size = omega (arith, h, k) in
@@ -69,7 +68,7 @@ no_less f n r (suc i) h =
     omega (arith, below, step)
 
 -- so the location across has the same number
-pub across-same : (p : ℕ) (m n : Moves) → IsLeast p m → (a : IsNumbered p m) → IsLeast p n → (b : IsNumbered p n) → AgreeOnMarks p m n → AgreeOnMarks p n m
+pub across-same : (p : ℕ) (m n : Moves) → IsLeast p m → (a : IsNumbered p m) → IsLeast p n → (b : IsNumbered p n) → HaveSameMarksOver p m n → HaveSameMarksOver p n m
     → (i : ℕ) → i < m.size → across p m n a i ≡ i
 across-same p m n l a g b alike ekila i h =
     let x = a.least i h in
@@ -81,7 +80,7 @@ across-same p m n l a g b alike ekila i h =
     omega (arith, up, rw back at down)
 
 -- a word leads to one number in both
-one_number : (p : ℕ) (m n : Moves) → IsLeast p m → (a : IsNumbered p m) → IsLeast p n → (b : IsNumbered p n) → AgreeOnMarks p m n → AgreeOnMarks p n m
+one_number : (p : ℕ) (m n : Moves) → IsLeast p m → (a : IsNumbered p m) → IsLeast p n → (b : IsNumbered p n) → HaveSameMarksOver p m n → HaveSameMarksOver p n m
     → (w : Word) → IsOver p w → location_after m m.first w ≡ location_after n n.first w
 one_number p m n l a g b alike ekila w o =
     let h = location_after-within p m l.closed m.first w l.closed.first o in
@@ -90,7 +89,7 @@ one_number p m n l a g b alike ekila w o =
     ∙ across-same p m n l a g b alike ekila (location_after m m.first w) h)
 
 -- each location of m is one of n
-no_more : (p : ℕ) (m n : Moves) → IsLeast p m → (a : IsNumbered p m) → IsLeast p n → (b : IsNumbered p n) → AgreeOnMarks p m n → AgreeOnMarks p n m
+no_more : (p : ℕ) (m n : Moves) → IsLeast p m → (a : IsNumbered p m) → IsLeast p n → (b : IsNumbered p n) → HaveSameMarksOver p m n → HaveSameMarksOver p n m
     → (i : ℕ) → i < m.size → i < n.size
 no_more p m n l a g b alike ekila i h =
     let within = location_after-within p n g.closed n.first (a.word i) g.closed.first (a.least i h).over in
@@ -108,7 +107,7 @@ same_size x y f g =
 
 pub least_is_unique : LeastIsUnique
 least_is_unique p m n l a g b alike =
-    let ekila : AgreeOnMarks p n m = λ w o. sym (alike w o) in
+    let ekila : HaveSameMarksOver p n m = λ w o. sym (alike w o) in
     let one = one_number p m n l a g b alike ekila in
     record {
       size = same_size m.size n.size (no_more p m n l a g b alike ekila) (no_more p n m g b l a ekila alike);

@@ -2,13 +2,9 @@
 use Rattle.std.specs.Prelude.{◌≡◌, ◌<◌, ◌≤◌, ℕ, List, [], Contains, length, slice_index, slice_index_or}
 use Rattle.diagrams.specs.declared.top.Id.{Id}
 use Rattle.diagrams.specs.Tree.{Assignment}
-use Rattle.diagrams.specs.Eval.{Diagrams, eval}
+use Rattle.diagrams.specs.Eval.{Diagrams, eval, id_at}
 use Rattle.automata.specs.Table.{Table, size_of, mark_of, row_of, moves_of}
 use Rattle.minimise.specs.Rounds.{IsDivided, IsRelabelled}
-
--- the id at a place of a list
-abbrev pub id_at : List Id → ℕ → Id
-id_at ids k = slice_index_or ids k (record { 0 = 0 })
 
 -- in n the rows that so many locations have in s, with blocks in place of locations
 pub record AreBlockRows (s n : Diagrams) (t : Table) (blocks : List ℕ) (rows : List Id) (count : ℕ) : Type 0 where

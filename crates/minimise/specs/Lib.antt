@@ -1,4 +1,4 @@
-pub mod Least
+pub mod Minimal
 pub mod Blocks
 pub mod Rounds
 pub mod Divisions

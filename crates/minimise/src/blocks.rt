@@ -16,13 +16,13 @@ pub(crate) struct Key {
 
 /// The block of each location, and the key of each block.
 #[derive(Drop)]
-pub(crate) struct Partition {
+pub(crate) struct KeyedBlocks {
     pub(crate) blocks: Vec<u32>,
     pub(crate) kinds: IndexSet<Key>,
 }
 
 /// The blocks of locations with these keys, numbered in the order of their first members.
-pub(crate) fn divide(alloc: Global, keys: &[Key]) -> Result<Partition, Memory>
+pub(crate) fn divide(alloc: Global, keys: &[Key]) -> Result<KeyedBlocks, Memory>
     requires { length keys.now < 2 ^ 32 }
     ensures { IfOk result (λ made. IsPartition keys.now made.blocks.items made.kinds.keys (length keys.now)) }
 {
@@ -32,5 +32,5 @@ pub(crate) fn divide(alloc: Global, keys: &[Key]) -> Result<Partition, Memory>
         let (block, _) = kinds.insert_full(*key)?;
         blocks.push(block as u32)?;
     }
-    Ok(Partition { blocks, kinds })
+    Ok(KeyedBlocks { blocks, kinds })
 }

@@ -5,14 +5,13 @@ ghost use Rattle.std.specs.Prelude.{◌≡◌, ◌<◌, ℕ, false, length, slic
 ghost use Rattle.std.specs.HashMap.{get};
 ghost use Rattle.diagrams.specs.Kept.{AllKept};
 ghost use Rattle.diagrams.specs.Live.{IsLive, Keeps, Means};
-ghost use Rattle.diagrams.specs.Turned.{IsTurned, same_id, IsItem, item_value};
+ghost use Rattle.diagrams.specs.Transformed.{IsTransformed, same_id, IsTableItem, item_value};
 ghost use Rattle.automata.specs.Table.{size_of, Fits};
 ghost use Rattle.minimise.specs.declared.blocks.Key as TheKey;
 ghost use Rattle.minimise.specs.Blocks.{same_key};
 ghost use Rattle.minimise.specs.Divisions.{AreBlockRows, AreTargets, HaveTargets, IsDivision};
 
 use crate::blocks::Key;
-use crate::relabelling::relabel;
 use crate::targets::Targets;
 use automata::Automaton;
 use bes_io::Memory;
@@ -32,11 +31,11 @@ pub fn block_rows(
     ensures keeps { Keeps store.old store.new }
     ensures rows { IfOk result (λ rows. AreBlockRows store.old store.new automaton.now blocks.now rows.items (size_of automaton.now)) }
 {
-    let _ = store.look(automaton.row(automaton.first()));
+    prove!(store.props() <= 32);
     let mut memo = Memo::new(alloc);
     let mut rows = Vec::new(alloc);
     for at in 0..automaton.size() {
-        rows.push(relabel(store, &mut memo, automaton.row(at), blocks)?)?;
+        rows.push(store.map_terminals_with(&mut memo, automaton.row(at), blocks)?)?;
     }
     Ok(rows)
 }
@@ -69,16 +68,16 @@ fn renewed(
     requires live { IsLive store.old f }
     requires targets { AreTargets store.old (length old.now) f targets.now }
     requires size { length new.now ≡ length old.now }
-    requires right { AllKept same_id (IsTurned store.old (IsItem new.now)) memo.old }
+    requires right { AllKept same_id (IsTransformed store.old (IsTableItem new.now)) memo.old }
     ensures keeps { Keeps store.old store.new }
-    ensures right { AllKept same_id (IsTurned store.new (IsItem new.now)) memo.new }
+    ensures right { AllKept same_id (IsTransformed store.new (IsTableItem new.now)) memo.new }
     ensures row { IfOk result (λ id. Means store.new id (item_value store.old new.now f)) }
 {
-    let _ = store.look(f);
+    prove!(store.props() <= 32);
     if !have_moved(targets, old, new) {
         return Ok(row);
     }
-    relabel(store, memo, f, new)
+    store.map_terminals_with(memo, f, new)
 }
 
 /// The rows of all locations with new blocks in place of locations, from those with old blocks.
@@ -99,7 +98,7 @@ pub fn renewed_rows(
     ensures keeps { Keeps store.old store.new }
     ensures rows { IfOk result (λ rows. AreBlockRows store.old store.new automaton.now new.now rows.items (size_of automaton.now)) }
 {
-    let _ = store.look(automaton.row(automaton.first()));
+    prove!(store.props() <= 32);
     let mut memo = Memo::new(alloc);
     let mut after = Vec::new(alloc);
     for at in 0..automaton.size() {

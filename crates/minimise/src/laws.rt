@@ -1,5 +1,5 @@
 //! Laws of least automata, each proved because the contract of a function here names it.
-ghost use Rattle.minimise.specs.Least.{SizeIsClassCount, ClassCountIsOne, LeastIsUnique, LeastIsSmallest};
+ghost use Rattle.minimise.specs.Minimal.{SizeIsClassCount, ClassCountIsOne, LeastIsUnique, LeastIsSmallest};
 
 /// What holds of every least automaton: where marks are 0 and 1 its size is a class
 /// count (Myhill 1957, Nerode 1958), which is one number, and

@@ -4,7 +4,7 @@ ghost use Rattle.diagrams.specs.Live.{Keeps};
 ghost use Rattle.automata.specs.Moves.{HaveSameMarks};
 ghost use Rattle.automata.specs.Table.{Fits, moves_of};
 ghost use Rattle.automata.specs.Numbering.{IsNumbered};
-ghost use Rattle.minimise.specs.Least.{IsLeast};
+ghost use Rattle.minimise.specs.Minimal.{IsLeast};
 
 use crate::blocks::Key;
 use crate::rounds::refine;
@@ -53,7 +53,6 @@ pub fn minimise(alloc: Global, store: &mut Store, automaton: Automaton) -> Resul
     ensures least { IfOk result (λ made. IsLeast store.old.props (moves_of store.new made)) }
     ensures numbered { IfOk result (λ made. IsNumbered store.old.props (moves_of store.new made)) }
 {
-    let _ = store.look(automaton.row(automaton.first()));
     let partition = refine(alloc, store, &automaton)?;
     let first = partition.blocks[automaton.first() as usize];
     let merged = merge(alloc, first, partition.kinds.as_slice())?;

@@ -1,6 +1,6 @@
 //! The least automaton with the same mark after every word, by partition refinement (Moore 1956).
 //!
-//! `specs/Least.antt` says what least means. Rows are compared as ids, which rests on
+//! `specs/Minimal.antt` says what least means. Rows are compared as ids, which rests on
 //! `diagrams`: equal functions have equal ids.
 #![tactic(auto)]
 
@@ -8,14 +8,10 @@ mod blocks;
 mod divisions;
 mod laws;
 mod least;
-mod relabelling;
 mod rounds;
 mod targets;
-#[cfg(test)]
-mod tests;
 
 pub use divisions::{block_rows, divide_by_rows, renewed_rows};
 pub use laws::laws_of_least_automata;
 pub use least::minimise;
-pub use relabelling::relabel;
 pub use targets::Targets;

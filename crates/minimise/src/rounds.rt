@@ -5,13 +5,12 @@ ghost use Rattle.automata.specs.Table.{size_of, Fits};
 ghost use Rattle.minimise.specs.Divisions.{IsDividedInRounds};
 ghost use Rattle.minimise.specs.Rounds.{AreKeys, IsRefined, IsRefining};
 
-use crate::blocks::{Key, Partition, divide};
+use crate::blocks::{Key, KeyedBlocks, divide};
 use crate::divisions::{block_rows, divide_by_rows, renewed_rows};
-use crate::relabelling::relabel;
 use crate::targets::Targets;
 use automata::Automaton;
 use bes_io::Memory;
-use diagrams::{Memo, Store};
+use diagrams::Store;
 use std::alloc::Global;
 
 /// The keys of all locations, by the blocks so far.
@@ -27,11 +26,10 @@ fn keys_of(
     ensures few { IfOk result (λ keys. length keys.items < 2 ^ 32) }
     ensures keys { IfOk result (λ keys. AreKeys store.old store.new automaton.now blocks.now keys.items (size_of automaton.now)) }
 {
-    let _ = store.look(automaton.row(automaton.first()));
-    let mut memo = Memo::new(alloc);
+    let rows = block_rows(alloc, store, automaton, blocks)?;
     let mut keys = Vec::new(alloc);
     for at in 0..automaton.size() {
-        let row = relabel(store, &mut memo, automaton.row(at), blocks)?;
+        let row = rows[at as usize];
         let mark = automaton.mark(at);
         keys.push(Key { mark, row })?;
     }
@@ -51,7 +49,8 @@ fn settle(alloc: Global, store: &mut Store, automaton: &Automaton) -> Result<Vec
     ensures keeps { Keeps store.old store.new }
     ensures divided { IfOk result (λ blocks. IsDividedInRounds store.old automaton.now blocks.items) }
 {
-    let _ = store.look(automaton.row(automaton.first()));
+    prove!(store.props() <= 32);
+    prove!(automaton.first() < automaton.size());
     let targets = Targets::new(alloc, store, automaton)?;
     let mut blocks = one_block(alloc, automaton.size())?;
     let mut rows = block_rows(alloc, store, automaton, &blocks)?;
@@ -67,12 +66,12 @@ fn settle(alloc: Global, store: &mut Store, automaton: &Automaton) -> Result<Vec
 }
 
 /// The blocks to begin with: those after rounds of division, numbered in the order of their first members.
-fn begin(alloc: Global, store: &mut Store, automaton: &Automaton) -> Result<Partition, Memory>
+fn begin(alloc: Global, store: &mut Store, automaton: &Automaton) -> Result<KeyedBlocks, Memory>
     requires fits { Fits store.old automaton.now }
     ensures keeps { Keeps store.old store.new }
     ensures refining { IfOk result (λ made. IsRefining store.old store.new automaton.now made.blocks.items (length made.kinds.keys)) }
 {
-    let _ = store.look(automaton.row(automaton.first()));
+    prove!(automaton.first() < automaton.size());
     let settled = settle(alloc, store, automaton)?;
     let keys = keys_of(alloc, store, automaton, &settled)?;
     divide(alloc, &keys)
@@ -83,12 +82,12 @@ pub(crate) fn refine(
     alloc: Global,
     store: &mut Store,
     automaton: &Automaton,
-) -> Result<Partition, Memory>
+) -> Result<KeyedBlocks, Memory>
     requires fits { Fits store.old automaton.now }
     ensures keeps { Keeps store.old store.new }
     ensures refined { IfOk result (λ made. IsRefined store.old store.new automaton.now made.blocks.items made.kinds.keys) }
 {
-    let _ = store.look(automaton.row(automaton.first()));
+    prove!(automaton.first() < automaton.size());
     let begun = begin(alloc, store, automaton)?;
     let mut count = begun.kinds.len();
     let mut blocks = begun.blocks;

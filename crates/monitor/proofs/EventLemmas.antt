@@ -10,7 +10,7 @@ use Rattle.automata.specs.Moves.{Moves, location_after, mark_after}
 use Rattle.automata.specs.Table.{Table, size_of, mark_of, row_of, IsRow, next_of, moves_of}
 use Rattle.automata.proofs.Letters.{spelt, spelt-less, spelt-truth}
 use Rattle.automata.proofs.Words.{over-append, over-cons, over-push, location_after-append, location_after-within}
-use Rattle.minimise.specs.Least.{IsLeast}
+use Rattle.minimise.specs.Minimal.{IsLeast}
 use Rattle.monitor.specs.Configuration.{Configuration, IsReady, LeadsTo, IsClaimOf, IsVerdictAfter, IsMovedBy}
 
 -- a function has one value below n, or another somewhere

@@ -6,7 +6,7 @@ use Rattle.diagrams.specs.Live.{Keeps}
 use Rattle.automata.specs.Moves.{IsReached, AreDistinguished}
 use Rattle.automata.specs.Table.{Table, size_of, Fits, moves_of}
 use Rattle.automata.proofs.Lasts.{fits_lasts, next_of-lasts, location_after-lasts, mark_after-lasts}
-use Rattle.minimise.specs.Least.{IsLeast}
+use Rattle.minimise.specs.Minimal.{IsLeast}
 use Rattle.monitor.specs.Configuration.{Configuration, IsReady, LeadsTo, IsClaimOf}
 
 reached_lasts : (s n : Diagrams) → Keeps s n → (t : Table) → Fits s t → t.first < size_of t → (at : ℕ)

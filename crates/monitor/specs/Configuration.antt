@@ -5,7 +5,7 @@ use Rattle.forms.specs.Verdict.{Verdict, IsVerdict}
 use Rattle.diagrams.specs.Eval.{Diagrams}
 use Rattle.automata.specs.Moves.{location_after, accepts}
 use Rattle.automata.specs.Table.{Table, size_of, mark_of, Fits, moves_of}
-use Rattle.minimise.specs.Least.{IsLeast}
+use Rattle.minimise.specs.Minimal.{IsLeast}
 
 -- an automaton, and one of its locations
 pub record Configuration : Type 0 where

@@ -6,8 +6,6 @@
 #![tactic(auto)]
 
 mod monitor;
-#[cfg(test)]
-mod tests;
 mod verdict;
 
 pub use monitor::Monitor;

@@ -4,7 +4,7 @@ ghost use Rattle.diagrams.specs.Tree.{Assignment};
 ghost use Rattle.diagrams.specs.Eval.{eval};
 ghost use Rattle.diagrams.specs.Live.{IsLive};
 ghost use Rattle.automata.specs.Table.{size_of, mark_of, Fits, moves_of};
-ghost use Rattle.minimise.specs.Least.{IsLeast};
+ghost use Rattle.minimise.specs.Minimal.{IsLeast};
 ghost use Rattle.monitor.specs.Configuration.{IsReady, LeadsTo, IsVerdictAfter, IsMovedBy};
 ghost use Rattle.monitor.specs.Verdicts.{verdict_of};
 
@@ -43,7 +43,7 @@ fn leads_only_to(store: &Store, row: Id, at: u32) -> bool
 
 impl Monitor {
     /// The monitor of the claim whose words the automaton accepts, before the first letter. The error is want of memory.
-    pub fn new(alloc: Global, store: &Store, whole: Automaton) -> Result<Monitor, Memory>
+    pub fn new(_alloc: Global, store: &Store, whole: Automaton) -> Result<Monitor, Memory>
         requires fits { Fits store.now whole }
         requires marks { (at : ℕ) → at < size_of whole → mark_of whole at < 2 }
         requires least { IsLeast store.now.props (moves_of store.now whole) }
@@ -51,7 +51,6 @@ impl Monitor {
         ensures automaton { IfOk result (λ m. m.automaton ≡ whole) }
         ensures empty { IfOk result (λ m. LeadsTo store.now m []) }
     {
-        let _ = alloc;
         let at = whole.first();
         Ok(Monitor { whole, at })
     }

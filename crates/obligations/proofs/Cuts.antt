@@ -9,26 +9,23 @@ use Rattle.diagrams.specs.declared.memo.Memo.{Memo}
 use Rattle.diagrams.specs.Tree.{Assignment}
 use Rattle.diagrams.specs.Eval.{Diagrams, top_of, eval, tree, DependsOn}
 use Rattle.diagrams.specs.Live.{IsLive, IsCanonical, Keeps, Means, StandsAbove}
-use Rattle.diagrams.specs.Composed.{item_of, IsObligation}
+use Rattle.diagrams.specs.Composed.{IsObligation}
+use Rattle.diagrams.specs.Eval.{id_at}
 use Rattle.diagrams.specs.Kept.{AllKept}
-use Rattle.diagrams.specs.Turned.{same_id}
+use Rattle.diagrams.specs.Transformed.{same_id}
 use Rattle.diagrams.proofs.Canon.{value_at-agree, tree_size}
 use Rattle.diagrams.proofs.Meaning.{eval-lasts, live_lasts, eval-node, eval-terminal, live-above, tree-above, tree-reduced}
-use Rattle.diagrams.proofs.Parts.{own}
-use Rattle.diagrams.proofs.Table.{bool_cases}
+use Rattle.diagrams.proofs.Expansion.{depends_from_stands}
+use Rattle.diagrams.proofs.CofactorLemmas.{own}
+use Rattle.std.proofs.lemmas.Bool.{cases_Bool}
 use Rattle.diagrams.proofs.Composed.{lo_over, hi_over, top_over}
 use Rattle.diagrams.proofs.Kept.{kept_weaker}
-use Rattle.diagrams.proofs.Turned.{down}
+use Rattle.diagrams.proofs.Transformed.{down}
 use Rattle.automata.specs.Table.{IsRow}
 use Rattle.automata.proofs.Lasts.{row_lasts}
 use Rattle.obligations.specs.Value.{IsClaim, IsBody}
 use Rattle.obligations.specs.Located.{Grows, AllClaims, Cuts, IsCut}
 use Rattle.obligations.proofs.Holds.{claim_lasts}
-
--- what stands above a variable depends on later ones alone
-pub depends_from_stands : (s : Diagrams) → IsCanonical s → (v : ℕ) (i : Id) → StandsAbove s v i → DependsOn s i (λ w. v < w)
-unfolding eval
-depends_from_stands s c v i h a b same = value_at-agree v (tree s i) a b (tree-above s c v i h) (tree-reduced s c i (live-above v _ h)) same
 
 -- the low child of a node depends on later variables alone
 pub lo_depends : (s : Diagrams) → IsCanonical s → (v : ℕ) (f lo hi : Id) → top_of s f ≡ Some (Node v lo hi) → DependsOn s lo (λ w. v < w)
@@ -64,7 +61,7 @@ depends_both s p count f d e a b same =
 
     below : (p count : ℕ) (a b : Assignment) → ((v : ℕ) → IsObligation p count v → a v ≡ b v) → (v : ℕ) → v < p + count → (if nat_lt v p then b v else a v) ≡ b v
     below p count a b same v h =
-        elim (bool_cases (nat_lt v p)) [
+        elim (cases_Bool (nat_lt v p)) [
           | inl t ↦ rw t refl
           | inr t ↦ let l : p ≤ v = grind (arith, nat_tests) in rw t (same v (l, h))
         ]
@@ -82,12 +79,12 @@ grows_trans a b c x y = record {
 
 -- claims stay claims as the store grows
 pub claims_last : (s n : Diagrams) → Keeps s n → (count : ℕ) (claims : List Id) → AllClaims s count claims → AllClaims n count claims
-claims_last s n k count claims all at h = claim_lasts s n k count (item_of claims at) (all at h)
+claims_last s n k count claims all at h = claim_lasts s n k count (id_at claims at) (all at h)
 
 -- what a location stands for, in the grown store and the grown list
 pub item-grown : (s n : Diagrams) → Keeps s n → (count : ℕ) (c d : List Id) → Grows c d → AllClaims s count c → (at : ℕ) → at < length c → (a : Assignment)
-    → eval n (item_of d at) a ≡ eval s (item_of c at) a
-item-grown s n k count c d g all at h a = rw (g.same at h) (eval-lasts s n k.was k.now k.extends (item_of c at) (all at h).live a)
+    → eval n (id_at d at) a ≡ eval s (id_at c at) a
+item-grown s n k count c d g all at h a = rw (g.same at h) (eval-lasts s n k.was k.now k.extends (id_at c at) (all at h).live a)
 
 -- a row leads to locations of the grown list
 pub row_grown : (s : Diagrams) (c d : List Id) → Grows c d → (row : Id) → IsRow s (length c) row → IsRow s (length d) row
@@ -129,7 +126,7 @@ kept_cut_lasts s n k count c d g all m r = kept_weaker same_id (IsCut s c) (IsCu
 
 before_cases : (v w : ℕ) → (v < w → ⊥) → w ≤ v
 before_cases v w n =
-    elim (bool_cases (nat_lt v w)) [
+    elim (cases_Bool (nat_lt v w)) [
       | inl t ↦ let l : v < w = grind (arith, nat_tests) in absurd (n l)
       | inr t ↦ grind (arith, nat_tests)
     ]
@@ -137,13 +134,13 @@ before_cases v w n =
 -- a diagram that depends on variables above v has its top above v
 pub top_after : (s : Diagrams) → IsCanonical s → (v w : ℕ) (f lo hi : Id) → top_of s f ≡ Some (Node w lo hi) → DependsOn s f (λ x. v < x) → v < w
 top_after s c v w f lo hi e d =
-    elim (bool_cases (nat_lt v w)) [
+    elim (cases_Bool (nat_lt v w)) [
       | inl t ↦ grind (arith, nat_tests)
       | inr t ↦ absurd (top_over s c (λ x. v < x) w f lo hi e d (λ l. let h : w ≤ v = grind (arith, nat_tests) in omega arith))
     ]
 
 -- below the propositions the row is the number of the claim
-pub cuts_end : (s n : Diagrams) → Keeps s n → (count : ℕ) (claims : List Id) (f row : Id) (at : ℕ) → IsClaim s count f → at < length claims → item_of claims at ≡ f
+pub cuts_end : (s n : Diagrams) → Keeps s n → (count : ℕ) (claims : List Id) (f row : Id) (at : ℕ) → IsClaim s count f → at < length claims → id_at claims at ≡ f
     → Means n row (λ _. at) → Cuts s n claims f row
 cuts_end s n k count claims f row at q h e m = record {
   fits = record { live = m.live; letters = λ a b same. m.value a ∙ sym (m.value b); targets = λ a. rw (m.value a) h };
@@ -171,9 +168,9 @@ cuts_node s n m k j count claims all v f lo hi low high row e small x y t =
       };
       left = λ a.
           rw (t.value a, eval-node s k.was f v lo hi e a)
-          (if_left (λ i. eval m (item_of claims i) a) (a v) (eval n high a) (eval n low a) (eval s hi a) (eval s lo a)
-          (eval-lasts n m j.was j.now j.extends (item_of claims (eval n high a)) (all _ (y.fits.targets a)).live a ∙ y.left a)
-          (eval-lasts n m j.was j.now j.extends (item_of claims (eval n low a)) (all _ (x.fits.targets a)).live a ∙ x.left a));
+          (if_left (λ i. eval m (id_at claims i) a) (a v) (eval n high a) (eval n low a) (eval s hi a) (eval s lo a)
+          (eval-lasts n m j.was j.now j.extends (id_at claims (eval n high a)) (all _ (y.fits.targets a)).live a ∙ y.left a)
+          (eval-lasts n m j.was j.now j.extends (id_at claims (eval n low a)) (all _ (x.fits.targets a)).live a ∙ x.left a));
       above = λ w d a b same.
           let l : w < v = top_after s k.was w v f lo hi e d in
           t.value a ∙ (rw (
@@ -248,15 +245,15 @@ cuts_children s0 s1 s2 k0 k1 count c1 c2 g all v f lo hi low high e l x y =
 
 -- one claim more
 pub claims_placed : (s : Diagrams) (count : ℕ) (c d : List Id) (f : Id) → AllClaims s count c → IsClaim s count f → Grows c d
-    → ((at : ℕ) → length c ≤ at → at < length d → item_of d at ≡ f) → AllClaims s count d
+    → ((at : ℕ) → length c ≤ at → at < length d → id_at d at ≡ f) → AllClaims s count d
 claims_placed s count c d f all q g others at h =
-    elim (bool_cases (nat_lt at (length c))) [
+    elim (cases_Bool (nat_lt at (length c))) [
       | inl t ↦ let l : at < length c = grind (arith, nat_tests) in rw (g.same at l) (all at l)
       | inr t ↦ let l : length c ≤ at = grind (arith, nat_tests) in rw (others at l h) q
     ]
 
 -- the same of a call that may fail
-pub cuts_end_ok : {E : Type 0} (r : Result Id E) (s n : Diagrams) → Keeps s n → (count : ℕ) (claims : List Id) (f : Id) (at : ℕ) → IsClaim s count f → at < length claims → item_of claims at ≡ f
+pub cuts_end_ok : {E : Type 0} (r : Result Id E) (s n : Diagrams) → Keeps s n → (count : ℕ) (claims : List Id) (f : Id) (at : ℕ) → IsClaim s count f → at < length claims → id_at claims at ≡ f
     → IfOk r (λ row. Means n row (λ _. at)) → IfOk r (λ row. Cuts s n claims f row)
 cuts_end_ok r s n k count claims f at q h e =
     IfOk-weaker r (λ row. Means n row (λ _. at)) (λ row. Cuts s n claims f row) (λ row m. cuts_end s n k count claims f row at q h e m)

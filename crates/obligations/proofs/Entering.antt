@@ -14,16 +14,17 @@ use Rattle.diagrams.specs.Branch.{split_value}
 use Rattle.diagrams.specs.Eval.{Diagrams, top_of, eval, tree, DependsOn}
 use Rattle.diagrams.specs.Live.{IsCanonical, Keeps, Means}
 use Rattle.diagrams.specs.Work.{CanCombine, combined_value}
-use Rattle.diagrams.specs.Composed.{item_of}
+use Rattle.diagrams.specs.Eval.{id_at}
 use Rattle.diagrams.specs.Kept.{AllKept}
-use Rattle.diagrams.specs.Turned.{same_id}
+use Rattle.diagrams.specs.Transformed.{same_id}
 use Rattle.diagrams.proofs.Canon.{tree_size}
 use Rattle.diagrams.proofs.Meaning.{eval-lasts, live_lasts, eval-node, eval-terminal, live-above, means_lasts}
-use Rattle.diagrams.proofs.Parts.{own}
-use Rattle.diagrams.proofs.Table.{bool_cases}
+use Rattle.diagrams.proofs.DependsLemmas.{DependsOn-lasts}
+use Rattle.diagrams.proofs.CofactorLemmas.{own}
+use Rattle.std.proofs.lemmas.Bool.{cases_Bool}
 use Rattle.diagrams.proofs.Composed.{lo_over, hi_over, top_over}
 use Rattle.diagrams.proofs.Kept.{kept_weaker}
-use Rattle.diagrams.proofs.Turned.{down}
+use Rattle.diagrams.proofs.Transformed.{down}
 use Rattle.automata.specs.Table.{IsRow}
 use Rattle.automata.proofs.Lasts.{row_lasts}
 use Rattle.obligations.specs.Value.{IsBody}
@@ -32,17 +33,6 @@ use Rattle.obligations.specs.Inclusion.{AllBelow, all_later}
 use Rattle.obligations.specs.Entered.{Asks, AllAsk, AllAreLater, entered_value, Enters, IsEntered}
 use Rattle.obligations.proofs.Holds.{claim_lasts}
 use Rattle.obligations.proofs.Cuts.{lo_depends, hi_depends}
-
--- a constant depends on nothing, also in a grown store
-pub constant_over : (s n : Diagrams) → Keeps s n → (i : Id) (x : ℕ) (P : ℕ → Type 0) → Means s i (λ _. x) → DependsOn n i P
-constant_over s n k i x P m a b same = eval-lasts s n k.was k.now k.extends i m.live a ∙ m.value a ∙ sym (m.value b) ∙ sym (eval-lasts s n k.was k.now k.extends i m.live b)
-
--- the value of a variable
-pub literal_ok : {E : Type 0} (r : Result Id E) (s0 s n : Diagrams) → Keeps s0 s → (v : ℕ) (lo hi : Id) → Means s0 lo (λ _. 0) → Means s hi (λ _. 1)
-    → IfOk r (λ id. Means n id (split_value s v lo hi)) → IfOk r (λ id. Means n id (λ a. if a v then 1 else 0))
-literal_ok r s0 s n k v lo hi l h =
-    IfOk-weaker r (λ id. Means n id (split_value s v lo hi)) (λ id. Means n id (λ a. if a v then 1 else 0))
-    (λ id m. record { live = m.live; value = λ a. m.value a ∙ (rw (h.value a, eval-lasts s0 s k.was k.now k.extends lo l.live a, l.value a) refl) })
 
 -- what is asked of the next position, in a grown store
 pub all_later-lasts : (s n : Diagrams) → n.props ≡ s.props → (base : ℕ) (a : Assignment) (ats : List ℕ) → all_later n base a ats ≡ all_later s base a ats
@@ -132,14 +122,14 @@ all_ask_next s n k base size wider items count id x y =
     record {
       number = rw length-append (omega arith);
       each = λ at h.
-          elim (bool_cases (nat_lt at count)) [
+          elim (cases_Bool (nat_lt at count)) [
             | inl t ↦
                 let l : at < count = grind (arith, nat_tests) in
-                let r : item_of (items ++ id ∷ []) at ≡ item_of items at = get_or_append_left items (id ∷ []) _ at (omega arith) in
-                rw r (asks_last s n k base size (wider at) (item_of items at) (x.each at l))
+                let r : id_at (items ++ id ∷ []) at ≡ id_at items at = get_or_append_left items (id ∷ []) _ at (omega arith) in
+                rw r (asks_last s n k base size (wider at) (id_at items at) (x.each at l))
             | inr t ↦
                 let l : count ≡ at = last_place at count h t in
-                let r : item_of (items ++ id ∷ []) at ≡ id = get_or_at items id [] _ at (omega arith) in
+                let r : id_at (items ++ id ∷ []) at ≡ id = get_or_at items id [] _ at (omega arith) in
                 rw (r, ← l) y
           ];
     }
@@ -159,11 +149,8 @@ pub later_last : (s n : Diagrams) → Keeps s n → (items : List Id) → AllAre
 later_last s n k items all at h =
     let x = all at h in
     record {
-      live = live_lasts s n k.extends (item_of items at) x.live;
-      over = λ a b same.
-          eval-lasts s n k.was k.now k.extends (item_of items at) x.live a
-          ∙ x.over a b (λ v q. same v (rw k.extends.props q))
-          ∙ sym (eval-lasts s n k.was k.now k.extends (item_of items at) x.live b);
+      live = live_lasts s n k.extends (id_at items at) x.live;
+      over = DependsOn-lasts s n k (id_at items at) (λ p v. p ≤ v) x.live x.over;
     }
 
 -- the value of the item to which a row leads, in a grown store
@@ -171,7 +158,7 @@ pub entered_value-lasts : (s n : Diagrams) → Keeps s n → (items : List Id) �
     → entered_value n items row a ≡ entered_value s items row a
 entered_value-lasts s n k items all row r a =
     rw (eval-lasts s n k.was k.now k.extends row r.live a)
-    (eval-lasts s n k.was k.now k.extends (item_of items (eval s row a)) (all (eval s row a) (r.targets a)).live a)
+    (eval-lasts s n k.was k.now k.extends (id_at items (eval s row a)) (all (eval s row a) (r.targets a)).live a)
 
 -- what was entered in the grown store is entered there
 pub entered_now : (s n : Diagrams) → Keeps s n → (items : List Id) → AllAreLater s items → (row id : Id) → IsRow s (length items) row → Enters s n items row id → IsEntered n items row id
@@ -189,7 +176,7 @@ pub kept_entered_last : (s n : Diagrams) → Keeps s n → (items : List Id) →
 kept_entered_last s n k items all m r = kept_weaker same_id (IsEntered s items) (IsEntered n items) m (λ row id e. entered_lasts s n k items all row id e) r
 
 -- a constant row leads to one item
-pub enters_terminal : (s : Diagrams) (items : List Id) → AllAreLater s items → (f : Id) (t : ℕ) → top_of s f ≡ Some (Terminal t) → t < length items → Enters s s items f (item_of items t)
+pub enters_terminal : (s : Diagrams) (items : List Id) → AllAreLater s items → (f : Id) (t : ℕ) → top_of s f ≡ Some (Terminal t) → t < length items → Enters s s items f (id_at items t)
 enters_terminal s items all f t e h = record { live = (all t h).live; value = λ a. rw (eval-terminal s f t e a) refl }
 
 -- what the walk may use of the children of a row's node
@@ -210,7 +197,7 @@ walks_on s c size f lo hi v e r =
       lo_less = d.lo_less;
       hi_less = d.hi_less;
       small =
-          elim (bool_cases (nat_lt v s.props)) [
+          elim (cases_Bool (nat_lt v s.props)) [
             | inl t ↦ grind (arith, nat_tests)
             | inr t ↦ absurd (top_over s c (λ w. w < s.props) v f lo hi e r.letters (λ l. let h : s.props ≤ v = grind (arith, nat_tests) in omega arith))
           ];
@@ -221,8 +208,8 @@ pub enters_over : (s n : Diagrams) (items : List Id) → AllAreLater s items →
     → DependsOn n id (λ w. v < w)
 enters_over s n items all row id v small r d m a b same =
     let e : eval s row a ≡ eval s row b = d a b same in
-    let there : eval s (item_of items (eval s row b)) a ≡ eval s (item_of items (eval s row b)) b = (all (eval s row b) (r.targets b)).over a b (λ w h. same w (omega arith)) in
-    m.value a ∙ ap (λ x. eval s (item_of items x) a) e ∙ there ∙ sym (m.value b)
+    let there : eval s (id_at items (eval s row b)) a ≡ eval s (id_at items (eval s row b)) b = (all (eval s row b) (r.targets b)).over a b (λ w h. same w (omega arith)) in
+    m.value a ∙ ap (λ x. eval s (id_at items x) a) e ∙ there ∙ sym (m.value b)
 
 -- the entered children before the node is made
 pub record EntersChildren (s0 s2 : Diagrams) (items : List Id) (v : ℕ) (lo hi low high : Id) : Type 0 where
@@ -254,7 +241,7 @@ enters_node s n m c items v f lo hi low high id e x t = record {
   live = t.live;
   value = λ a.
       t.value a
-      ∙ (rw (x.high_enters.value a, x.low_enters.value a, eval-node s c f v lo hi e a) (if_apply (λ z. eval s (item_of items z) a) (a v) (eval s hi a) (eval s lo a)));
+      ∙ (rw (x.high_enters.value a, x.low_enters.value a, eval-node s c f v lo hi e a) (if_apply (λ z. eval s (id_at items z) a) (a v) (eval s hi a) (eval s lo a)));
 }
 
 -- what is entered is a body over as many obligations as the items
@@ -263,8 +250,8 @@ enters_body s n k count items all row id r m = record {
   live = m.live;
   over = λ a b same.
       let e : eval s row a ≡ eval s row b = r.letters a b (λ v h. same v (rw k.extends.props (omega arith))) in
-      let there : eval s (item_of items (eval s row b)) a ≡ eval s (item_of items (eval s row b)) b =
+      let there : eval s (id_at items (eval s row b)) a ≡ eval s (id_at items (eval s row b)) b =
       (all (eval s row b) (r.targets b)).over a b (λ v h. same v (rw k.extends.props h.1)) in
-      m.value a ∙ ap (λ x. eval s (item_of items x) a) e ∙ there ∙ sym (m.value b);
+      m.value a ∙ ap (λ x. eval s (id_at items x) a) e ∙ there ∙ sym (m.value b);
   truth = λ a. rw (m.value a) ((all (eval s row a) (r.targets a)).truth a);
 }

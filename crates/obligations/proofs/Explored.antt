@@ -6,12 +6,12 @@ use Rattle.diagrams.specs.declared.top.Look.TheVariants.{Node}
 use Rattle.diagrams.specs.Tree.{Assignment}
 use Rattle.diagrams.specs.Eval.{Diagrams, top_of, eval, tree}
 use Rattle.diagrams.specs.Live.{IsCanonical, Keeps}
-use Rattle.diagrams.specs.Composed.{IsObligation, AllTruths, IsOver, replaced, Composes}
+use Rattle.diagrams.specs.Composed.{IsObligation, AllTruths, IsOverObligations, replaced, Composes}
 use Rattle.diagrams.proofs.Canon.{tree_size}
 use Rattle.diagrams.proofs.Meaning.{eval-lasts, eval-node, live-above}
-use Rattle.diagrams.proofs.Parts.{own}
+use Rattle.diagrams.proofs.CofactorLemmas.{own}
 use Rattle.diagrams.proofs.Composed.{lo_over, hi_over, top_obligation}
-use Rattle.diagrams.proofs.Turned.{down}
+use Rattle.diagrams.proofs.Transformed.{down}
 use Rattle.automata.proofs.Lasts.{row_lasts}
 use Rattle.obligations.specs.declared.cells.Obligation.{Obligation}
 use Rattle.obligations.specs.Table.{ends_of, body_of}
@@ -61,7 +61,7 @@ bodies_truth s c bodies f b k h =
     rw (b.each k l) (record { live = body.live; truth = body.truth })
 
 -- a claim is over as many obligations as there are bodies
-pub claim_over : (s : Diagrams) (c : List Obligation) (bodies : List Id) (claim : Id) → HasBodies c bodies → IsClaim s (length c) claim → IsOver s (length bodies) claim
+pub claim_over : (s : Diagrams) (c : List Obligation) (bodies : List Id) (claim : Id) → HasBodies c bodies → IsClaim s (length c) claim → IsOverObligations s (length bodies) claim
 claim_over s c bodies claim b q = rw b.count q.over
 
 -- what a claim composes to is a body

@@ -6,10 +6,10 @@ use Rattle.std.proofs.lemmas.List.{get_or_append_left, get_or_at}
 use Rattle.diagrams.specs.declared.top.Id.{Id}
 use Rattle.diagrams.specs.Eval.{Diagrams, eval}
 use Rattle.diagrams.specs.Live.{Keeps, IsCanonical}
-use Rattle.diagrams.specs.Composed.{item_of}
+use Rattle.diagrams.specs.Eval.{id_at}
 use Rattle.diagrams.proofs.Meaning.{Keeps_trans}
 use Rattle.diagrams.proofs.Meaning.{eval-lasts, Extends_refl}
-use Rattle.diagrams.proofs.Table.{bool_cases}
+use Rattle.std.proofs.lemmas.Bool.{cases_Bool}
 use Rattle.automata.specs.Moves.{mark_after, accepts}
 use Rattle.automata.specs.Table.{Table, size_of, mark_of, Fits, moves_of}
 use Rattle.obligations.specs.declared.cells.Obligation.{Obligation}
@@ -21,7 +21,7 @@ use Rattle.obligations.proofs.Explored.{located_lasts}
 use Rattle.obligations.proofs.Cuts.{claims_placed}
 
 -- before the first location
-pub exploring_first : (s : Diagrams) → IsCanonical s → (c : List Obligation) (start : Id) (claims : List Id) → AllClaims s (length c) claims → 0 < length claims → item_of claims 0 ≡ start
+pub exploring_first : (s : Diagrams) → IsCanonical s → (c : List Obligation) (start : Id) (claims : List Id) → AllClaims s (length c) claims → 0 < length claims → id_at claims 0 ≡ start
     → IsExploring s s c start claims [] [] 0
 exploring_first s k c start claims all some e = record {
   keeps = record { was = k; now = k; extends = Extends_refl s };
@@ -37,7 +37,7 @@ exploring_first s k c start claims all some e = record {
 -- one location more
 pub exploring_next : (s0 s n : Diagrams) (c : List Obligation) → FitsCells s0 c → (start : Id) (claims more rows : List Id) (marks : List ℕ) (at : ℕ) (row : Id) (mark : ℕ)
     → IsExploring s0 s c start claims rows marks at → Keeps s n → Grows claims more → AllClaims n (length c) more → at < length claims
-    → IsLocated n c more (item_of claims at) row mark → IsExploring s0 n c start more (rows ++ row ∷ []) (marks ++ mark ∷ []) (at + 1)
+    → IsLocated n c more (id_at claims at) row mark → IsExploring s0 n c start more (rows ++ row ∷ []) (marks ++ mark ∷ []) (at + 1)
 exploring_next s0 s n c f start claims more rows marks at row mark x k g all l made = record {
   keeps = Keeps_trans s0 s n x.keeps k;
   sound = all;
@@ -47,17 +47,17 @@ exploring_next s0 s n c f start claims more rows marks at row mark x k g all l m
   mark_count = rw (length-append, x.mark_count) refl;
   within = let m = g.longer in omega arith;
   each = λ i h.
-      elim (bool_cases (nat_lt i at)) [
+      elim (cases_Bool (nat_lt i at)) [
         | inl t ↦
             let b : i < at = grind (arith, nat_tests) in
-            let r : item_of (rows ++ row ∷ []) i ≡ item_of rows i = get_or_append_left rows (row ∷ []) _ i (rw x.row_count b) in
+            let r : id_at (rows ++ row ∷ []) i ≡ id_at rows i = get_or_append_left rows (row ∷ []) _ i (rw x.row_count b) in
             let m : slice_index (marks ++ mark ∷ []) i ≡ slice_index marks i = get_or_append_left marks (mark ∷ []) _ i (rw x.mark_count b) in
             let w = x.within in
             rw (g.same i (omega arith), r, m)
-            (located_lasts s n k c (fits_cells_lasts s0 s x.keeps c f) claims more g x.sound (item_of claims i) (item_of rows i) (slice_index marks i) (x.each i b))
+            (located_lasts s n k c (fits_cells_lasts s0 s x.keeps c f) claims more g x.sound (id_at claims i) (id_at rows i) (slice_index marks i) (x.each i b))
         | inr t ↦
             let b : i ≡ at = grind (arith, nat_tests) in
-            let r : item_of (rows ++ row ∷ []) at ≡ row = get_or_at rows row [] _ at x.row_count in
+            let r : id_at (rows ++ row ∷ []) at ≡ row = get_or_at rows row [] _ at x.row_count in
             let m : slice_index (marks ++ mark ∷ []) at ≡ mark = get_or_at marks mark [] _ at x.mark_count in
             rw (b, g.same at l, r, m) made
       ];
@@ -87,7 +87,7 @@ pub determinised : (s0 s : Diagrams) (c : List Obligation) → FitsCells s0 c �
     → IsExploring s0 s c start claims rows marks at → at ≡ length claims → (t : Table) → t.first ≡ 0 → t.rows ≡ rows → t.marks ≡ marks → (word : List ℕ)
     → accepts (moves_of s t) word ≡ holds s0 c start word
 determinised s0 s c f start q claims rows marks at x e t o r m word =
-    let a : mark_after (moves_of s t) 0 word ≡ eval s (item_of claims 0) (by_values s.props (cell s c word)) =
+    let a : mark_after (moves_of s t) 0 word ≡ eval s (id_at claims 0) (by_values s.props (cell s c word)) =
     mark_after-claim s c claims t (exploring_done s0 s c start claims rows marks at x e t r m) 0 x.some word in
     let b : mark_after (moves_of s t) t.first word ≡ eval s start (by_values s.props (cell s c word)) = rw (o, ← x.first) a in
     ap (λ v. v == 1) (b ∙ holds-lasts s0 s x.keeps c f start q word)
@@ -113,14 +113,14 @@ pub first_next : (c : List Obligation) (bodies : List Id) (n : ℕ) (b : Id) →
 first_next c bodies n b x e = record {
   count = rw (length-append, x.count) refl;
   each = λ j h.
-      elim (bool_cases (nat_lt j n)) [
+      elim (cases_Bool (nat_lt j n)) [
         | inl t ↦
             let l : j < n = grind (arith, nat_tests) in
-            let r : item_of (bodies ++ b ∷ []) j ≡ item_of bodies j = get_or_append_left bodies (b ∷ []) _ j (rw x.count l) in
+            let r : id_at (bodies ++ b ∷ []) j ≡ id_at bodies j = get_or_append_left bodies (b ∷ []) _ j (rw x.count l) in
             r ∙ x.each j l
         | inr t ↦
             let l : j ≡ n = grind (arith, nat_tests) in
-            let r : item_of (bodies ++ b ∷ []) n ≡ b = get_or_at bodies b [] _ n x.count in
+            let r : id_at (bodies ++ b ∷ []) n ≡ b = get_or_at bodies b [] _ n x.count in
             rw l (r ∙ e)
       ];
 }
@@ -135,7 +135,7 @@ first_done c bodies n x e = rw e at x
 
 -- what stands when start has been placed
 pub exploring_start : (s : Diagrams) → IsCanonical s → (c : List Obligation) (start : Id) → IsClaim s (length c) start → (old new : List Id) (at : ℕ) → old ≡ [] → Grows old new
-    → ((i : ℕ) → length old ≤ i → i < length new → item_of new i ≡ start) → at < length new → IsExploring s s c start new [] [] 0
+    → ((i : ℕ) → length old ≤ i → i < length new → id_at new i ≡ start) → at < length new → IsExploring s s c start new [] [] 0
 exploring_start s k c start q old new at e g others h =
     let none : AllClaims s (length c) old = rw e (λ i l. absurd (omega arith)) in
     let zero : length old ≤ 0 = rw e (omega arith) in

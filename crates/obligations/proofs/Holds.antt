@@ -9,12 +9,14 @@ use Rattle.automata.specs.Table.{Table, row_of, next_of, moves_of}
 use Rattle.obligations.specs.declared.cells.Obligation.{Obligation}
 use Rattle.obligations.specs.Table.{body_of}
 use Rattle.obligations.specs.Value.{joint, by_values, cell, IsClaim, IsBody, FitsCells}
-use Rattle.obligations.specs.Located.{by_bodies, Leads, AllLocated}
+use Rattle.obligations.specs.Located.{by_bodies, LeadsToRest, AllLocated}
 use Rattle.std.proofs.lemmas.Bool.Decides.{nat_tests}
 use Rattle.diagrams.specs.Live.{Keeps}
-use Rattle.diagrams.specs.Composed.{item_of}
+use Rattle.diagrams.specs.Eval.{id_at}
+use Rattle.diagrams.proofs.DependsLemmas.{DependsOn-lasts}
 use Rattle.diagrams.proofs.Meaning.{eval-lasts, live_lasts}
-use Rattle.diagrams.proofs.Table.{bool_cases}
+use Rattle.diagrams.specs.Composed.{IsObligation}
+use Rattle.std.proofs.lemmas.Bool.{cases_Bool}
 use Rattle.std.proofs.Common.{inl, inr}
 
 lt_true : (v p : ℕ) → v < p → nat_lt v p ≡ true
@@ -36,14 +38,14 @@ pub by_values-obligations : (p : ℕ) (values : ℕ → Bool) (v : ℕ) → p �
 by_values-obligations p values v h = rw (lt_false v p h) refl
 
 -- what a claim says of a letter before a word is what is left of it says of the word
-pub after_letter : (s : Diagrams) (c : List Obligation) (claims : List Id) (claim row : Id) → IsClaim s (length c) claim → Leads s c claims claim row
-    → ((at : ℕ) → at < length claims → IsClaim s (length c) (item_of claims at)) → (letter : ℕ) (word : List ℕ)
-    → eval s (item_of claims (eval s row (letter_truth s.props letter))) (by_values s.props (cell s c word)) ≡ eval s claim (by_values s.props (cell s c (letter ∷ word)))
+pub after_letter : (s : Diagrams) (c : List Obligation) (claims : List Id) (claim row : Id) → IsClaim s (length c) claim → LeadsToRest s c claims claim row
+    → ((at : ℕ) → at < length claims → IsClaim s (length c) (id_at claims at)) → (letter : ℕ) (word : List ℕ)
+    → eval s (id_at claims (eval s row (letter_truth s.props letter))) (by_values s.props (cell s c word)) ≡ eval s claim (by_values s.props (cell s c (letter ∷ word)))
 after_letter s c claims claim row k l each letter word =
     let j : Assignment = joint s.props letter (cell s c word) in
     let next = eval s row (letter_truth s.props letter) in
     let row_same : eval s row j ≡ next = l.fits.letters j (letter_truth s.props letter) (λ v h. joint-letter s.props letter (cell s c word) v h) in
-    let left : eval s (item_of claims next) j ≡ eval s claim (by_bodies s c j) = rw row_same at (l.left j) in
+    let left : eval s (id_at claims next) j ≡ eval s claim (by_bodies s c j) = rw row_same at (l.left j) in
     (each next (l.fits.targets (letter_truth s.props letter))).over (by_values s.props (cell s c word)) j
     (λ v h. by_values-obligations s.props (cell s c word) v h.0 ∙ sym (joint-obligations s.props letter (cell s c word) v h.0))
     ∙ left
@@ -52,32 +54,30 @@ after_letter s c claims claim row k l each letter word =
 
 -- the mark after a word is what the claim of the location says of the word
 pub mark_after-claim : (s : Diagrams) (c : List Obligation) (claims : List Id) (t : Table) → AllLocated s c claims t → (at : ℕ) → at < length claims → (word : List ℕ)
-    → mark_after (moves_of s t) at word ≡ eval s (item_of claims at) (by_values s.props (cell s c word))
+    → mark_after (moves_of s t) at word ≡ eval s (id_at claims at) (by_values s.props (cell s c word))
 mark_after-claim s c claims t a at h [] = (a.each at h).end
 mark_after-claim s c claims t a at h (letter ∷ word) =
     let l = a.each at h in
     mark_after-claim s c claims t a (next_of s t at letter) (l.leads.fits.targets (letter_truth s.props letter)) word
-    ∙ after_letter s c claims (item_of claims at) (row_of t at) l.sound l.leads (λ i k. (a.each i k).sound) letter word
+    ∙ after_letter s c claims (id_at claims at) (row_of t at) l.sound l.leads (λ i k. (a.each i k).sound) letter word
 
 -- a body as its store grows
 pub body_lasts : (s n : Diagrams) → Keeps s n → (count : ℕ) (f : Id) → IsBody s count f → IsBody n count f
 body_lasts s n k count f b = record {
   live = live_lasts s n k.extends f b.live;
-  over = λ x y same.
-      eval-lasts s n k.was k.now k.extends f b.live x
-      ∙ b.over x y (λ v h. same v (rw k.extends.props h))
-      ∙ sym (eval-lasts s n k.was k.now k.extends f b.live y);
+  over = DependsOn-lasts s n k f (λ p v. v < p + count) b.live b.over;
   truth = λ a. rw (eval-lasts s n k.was k.now k.extends f b.live a) (b.truth a);
 }
+
+-- a body may speak of more obligations
+pub body_wider : (s : Diagrams) (count more : ℕ) (f : Id) → count ≤ more → IsBody s count f → IsBody s more f
+body_wider s count more f h b = record { live = b.live; over = λ x y same. b.over x y (λ v l. same v (omega arith)); truth = b.truth }
 
 -- a claim as its store grows
 pub claim_lasts : (s n : Diagrams) → Keeps s n → (count : ℕ) (f : Id) → IsClaim s count f → IsClaim n count f
 claim_lasts s n k count f b = record {
   live = live_lasts s n k.extends f b.live;
-  over = λ x y same.
-      eval-lasts s n k.was k.now k.extends f b.live x
-      ∙ b.over x y (λ v h. same v (rw k.extends.props h))
-      ∙ sym (eval-lasts s n k.was k.now k.extends f b.live y);
+  over = DependsOn-lasts s n k f (λ p v. IsObligation p count v) b.live b.over;
   truth = λ a. rw (eval-lasts s n k.was k.now k.extends f b.live a) (b.truth a);
 }
 
@@ -89,7 +89,7 @@ fits_cells_lasts s n k c f j h = body_lasts s n k (length c) (body_of c j) (f j 
 joint-same : (p q letter : ℕ) (x y : ℕ → Bool) (count v : ℕ) → q ≡ p → ((j : ℕ) → j < count → x j ≡ y j) → v < p + count
     → joint q letter x v ≡ joint p letter y v
 joint-same p q letter x y count v e same h =
-    rw e (elim (bool_cases (nat_lt v p)) [
+    rw e (elim (cases_Bool (nat_lt v p)) [
       | inl t ↦ rw t refl
       | inr t ↦ rw t (same (v - p) (below p count v t h))
     ])

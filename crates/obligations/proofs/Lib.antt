@@ -4,7 +4,6 @@ pub mod Numbered
 pub mod InclusionLemmas
 pub mod Explored
 pub mod Exploring
-pub mod TestLemmas
 mod Entering
 mod Stands
 mod Simulating

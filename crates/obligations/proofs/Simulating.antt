@@ -13,8 +13,8 @@ use Rattle.diagrams.specs.Tree.{put}
 use Rattle.diagrams.specs.Eval.{Diagrams, top_of, eval, letter_truth}
 use Rattle.diagrams.specs.Live.{IsCanonical}
 use Rattle.diagrams.proofs.Meaning.{eval-terminal, live-above}
-use Rattle.diagrams.proofs.Parts.{IsParts, low-value, high-value}
-use Rattle.diagrams.proofs.Table.{bool_cases, and_true, eqb_true}
+use Rattle.diagrams.proofs.CofactorLemmas.{AreCofactors, low-value, high-value}
+use Rattle.std.proofs.lemmas.Bool.{cases_Bool, and_parts, eqb-true}
 use Rattle.diagrams.proofs.Works.{id_true}
 use Rattle.automata.specs.Table.{Table, size_of, mark_of, row_of, next_of}
 use Rattle.obligations.specs.declared.simulation.Compared.{Compared}
@@ -28,13 +28,13 @@ pub leads_terminal : (s : Diagrams) (R : ℕ → ℕ → Bool) (f g : Id) (x y :
 leads_terminal s R f g x y ef eg h a = rw (eval-terminal s f x ef a, eval-terminal s g y eg a) h
 
 -- the parts of a diagram lead below what it leads below
-pub low_below : (s : Diagrams) → IsCanonical s → (size v : ℕ) (f lo hi : Id) → IsParts s v f lo hi → LeadsBelow s size f → LeadsBelow s size lo
+pub low_below : (s : Diagrams) → IsCanonical s → (size v : ℕ) (f lo hi : Id) → AreCofactors s v f lo hi → LeadsBelow s size f → LeadsBelow s size lo
 low_below s c size v f lo hi p b = record {
   live = live-above v _ p.lo_above;
   below = λ a. let h = b.below (put a v false) in rw (low-value s c v f lo hi p a) at h;
 }
 
-pub high_below : (s : Diagrams) → IsCanonical s → (size v : ℕ) (f lo hi : Id) → IsParts s v f lo hi → LeadsBelow s size f → LeadsBelow s size hi
+pub high_below : (s : Diagrams) → IsCanonical s → (size v : ℕ) (f lo hi : Id) → AreCofactors s v f lo hi → LeadsBelow s size f → LeadsBelow s size hi
 high_below s c size v f lo hi p b = record {
   live = live-above v _ p.hi_above;
   below = λ a. let h = b.below (put a v true) in rw (high-value s c v f lo hi p a) at h;
@@ -45,7 +45,7 @@ if_related R true x y z w h k = h
 if_related R false x y z w h k = k
 
 -- where both parts are within, the whole is
-pub leads_parts : (s : Diagrams) (R : ℕ → ℕ → Bool) (v : ℕ) (f fl fh g gl gh : Id) → IsParts s v f fl fh → IsParts s v g gl gh → LeadsWithin s R fl gl → LeadsWithin s R fh gh → LeadsWithin s R f g
+pub leads_parts : (s : Diagrams) (R : ℕ → ℕ → Bool) (v : ℕ) (f fl fh g gl gh : Id) → AreCofactors s v f fl fh → AreCofactors s v g gl gh → LeadsWithin s R fl gl → LeadsWithin s R fh gh → LeadsWithin s R f g
 leads_parts s R v f fl fh g gl gh p q low high a =
     rw (p.splits a, q.splits a) (if_related R (a v) (eval s fh a) (eval s fl a) (eval s gh a) (eval s gl a) (high a) (low a))
 
@@ -58,9 +58,9 @@ module _ {S : Type 0} where
   pub known_next : (s : Diagrams) (R : ℕ → ℕ → Bool) (old new : HashSet Compared S) (f g : Id) → IsKnown s R old → LeadsWithin s R f g → IsNoted old new (record { lower = f; upper = g }) → IsKnown s R new
   known_next s R old new f g known leads noted pair h =
       let both : Compared = record { lower = f; upper = g } in
-      elim (bool_cases (same_compared both pair)) [
+      elim (cases_Bool (same_compared both pair)) [
         | inl t ↦
-            let e = and_true _ _ t in
+            let e = and_parts _ _ t in
             let p : f ≡ pair.lower = id_true f pair.lower e.0 in
             let q : g ≡ pair.upper = id_true g pair.upper e.1 in
             rw (← p, ← q) leads
@@ -77,7 +77,7 @@ last_place at count h t = let g : count ≤ at = grind (arith, nat_tests) in ome
 -- one location more is simulated by those to which it is related
 pub simulated_next : (s : Diagrams) (t : Table) (R : ℕ → ℕ → Bool) (x count : ℕ) → AreSimulated s t R x count → (R x count ≡ true → IsSimulated s t R x count) → AreSimulated s t R x (count + 1)
 simulated_next s t R x count all here y h r =
-    elim (bool_cases (nat_lt y count)) [
+    elim (cases_Bool (nat_lt y count)) [
       | inl u ↦ let l : y < count = grind (arith, nat_tests) in all y l r
       | inr u ↦ let e : count ≡ y = last_place y count h u in rw (← e) (here (rw (← e) at r))
     ]
@@ -86,7 +86,7 @@ simulated_next s t R x count all here y h r =
 pub rounds_next : (s : Diagrams) (t : Table) (r q : Pairs) (x : ℕ) → 0 < x → q ≡ r → ((y : ℕ) → x ≤ y → y < size_of t → AreSimulated s t (related r) y (size_of t))
     → AreSimulated s t (related q) (x - 1) (size_of t) → (y : ℕ) → x - 1 ≤ y → y < size_of t → AreSimulated s t (related q) y (size_of t)
 rounds_next s t r q x some e all here y h l =
-    elim (bool_cases (nat_lt y x)) [
+    elim (cases_Bool (nat_lt y x)) [
       | inl u ↦ let g : x - 1 ≡ y = before_last x y some h u in rw (← g) here
       | inr u ↦ let g : x ≤ y = grind (arith, nat_tests) in rw e (all y g l)
     ]
@@ -97,8 +97,8 @@ rounds_next s t r q x some e all here y h l =
 -- each pair that is related lies within
 pub related_within : (r : Pairs) (x y : ℕ) → related r x y ≡ true → (x < r.size) × (y < r.size)
 related_within r x y e =
-    let p = and_true (nat_lt x r.size && nat_lt y r.size) (slice_index_or r.pairs (x * r.size + y) false) e in
-    let q = and_true (nat_lt x r.size) (nat_lt y r.size) p.0 in
+    let p = and_parts (nat_lt x r.size && nat_lt y r.size) (slice_index_or r.pairs (x * r.size + y) false) e in
+    let q = and_parts (nat_lt x r.size) (nat_lt y r.size) p.0 in
     let a = q.0 in
     let b = q.1 in
     (grind (arith, nat_tests), grind (arith, nat_tests))
@@ -119,13 +119,13 @@ or_right false c e = e
 pub simulation_or_same : (s : Diagrams) (t : Table) (R : ℕ → ℕ → Bool) → IsSimulation s t R → IsSimulation s t (or_same R)
 simulation_or_same s t R i = record {
   marks = λ x y e h.
-      elim (bool_cases (x == y)) [
-        | inl u ↦ let g : x ≡ y = eqb_true x y u in rw (← g) h
+      elim (cases_Bool (x == y)) [
+        | inl u ↦ let g : x ≡ y = eqb-true x y u in rw (← g) h
         | inr u ↦ i.marks x y (rw u at e) h
       ];
   rows = λ x y e a.
-      elim (bool_cases (x == y)) [
-        | inl u ↦ let g : x ≡ y = eqb_true x y u in rw (g, eq-eqb (eval s (row_of t y) a) (eval s (row_of t y) a) refl) refl
+      elim (cases_Bool (x == y)) [
+        | inl u ↦ let g : x ≡ y = eqb-true x y u in rw (g, eq-eqb (eval s (row_of t y) a) (eval s (row_of t y) a) refl) refl
         | inr u ↦ or_right _ _ (i.rows x y (rw u at e) a)
       ];
 }
@@ -143,7 +143,7 @@ one_lacks s t w x (y ∷ ys) (suc k) h e n = rw (one_lacks s t w x ys k (omega a
 -- a location accepts what all of some that simulate it accept, itself among them
 wider_among : (s : Diagrams) (t : Table) (R : ℕ → ℕ → Bool) → IsSimulation s t R → (x : ℕ) (list : List ℕ) → AllSimulate R x list → Contains list x → (w : List ℕ) → all_accept s t w list ≡ accepts_from s t x w
 wider_among s t R i x list all own w =
-    elim (bool_cases (accepts_from s t x w)) [
+    elim (cases_Bool (accepts_from s t x w)) [
       | inl e ↦ rw e (all_simulate s t R i x list all w e)
       | inr e ↦ rw e (one_lacks s t w x list own.0 own.1 own.2 e)
     ]
@@ -189,7 +189,7 @@ pub lists_next : {X : Type 0} (view : X → List ℕ) (P : ℕ → List ℕ → 
 lists_next view P lists count x e all here k h =
     let l : length (map view lists) ≡ count = length-map lists view ∙ e in
     rw (map-append view lists (x ∷ []))
-    (elim (bool_cases (nat_lt k count)) [
+    (elim (cases_Bool (nat_lt k count)) [
       | inl u ↦
           let q : k < count = grind (arith, nat_tests) in
           rw (get_or_append_left (map view lists) (view x ∷ []) [] k (omega arith)) (all k q)
@@ -210,7 +210,7 @@ simulate_push R x (z ∷ zs) y a h = (a.0, simulate_push R x zs y a.1 h)
 -- a location that was passed over is not the one that is sought
 pub before_skipped : (x y : ℕ) → (y ≡ x → ⊥) → x < y + 1 → x < y
 before_skipped x y n h =
-    elim (bool_cases (nat_lt x y)) [
+    elim (cases_Bool (nat_lt x y)) [
       | inl u ↦ grind (arith, nat_tests)
       | inr u ↦ let g : y ≡ x = last_place x y h u in absurd (n g)
     ]
@@ -218,7 +218,7 @@ before_skipped x y n h =
 -- the location itself is in the list once it was passed
 pub itself_push : (list : List ℕ) (x y : ℕ) → (x < y → Contains list x) → x < y + 1 → Contains (list ++ y ∷ []) x
 itself_push list x y own h =
-    elim (bool_cases (nat_lt x y)) [
+    elim (cases_Bool (nat_lt x y)) [
       | inl u ↦ let g : x < y = grind (arith, nat_tests) in Contains-append_left list (y ∷ []) x (own g)
       | inr u ↦ let g : y ≡ x = last_place x y h u in rw g (Contains-push list x)
     ]

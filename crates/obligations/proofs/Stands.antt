@@ -6,9 +6,9 @@ use Rattle.std.proofs.lemmas.List.{get_or_append_left, get_or_at, get_or-set_sam
 use Rattle.diagrams.specs.declared.top.Id.{Id}
 use Rattle.diagrams.specs.Eval.{Diagrams, eval}
 use Rattle.diagrams.specs.Live.{IsCanonical, Keeps, Means}
-use Rattle.diagrams.specs.Composed.{item_of}
+use Rattle.diagrams.specs.Eval.{id_at}
 use Rattle.diagrams.proofs.Meaning.{eval-lasts, Keeps_trans, Keeps_refl, means_lasts}
-use Rattle.diagrams.proofs.Table.{bool_cases}
+use Rattle.std.proofs.lemmas.Bool.{cases_Bool}
 use Rattle.automata.specs.Table.{Table, size_of, mark_of, row_of, Fits}
 use Rattle.automata.proofs.Lasts.{fits_lasts, mark_after-lasts}
 use Rattle.obligations.specs.declared.cells.Obligation.{Obligation}
@@ -18,7 +18,7 @@ use Rattle.obligations.specs.Located.{AllClaims}
 use Rattle.obligations.specs.Inclusion.{accepts_from, all_later, all_accept, AllBelow, Follows, IsWider}
 use Rattle.obligations.specs.Followed.{HasFrom, GoesOn, StandsFor}
 use Rattle.obligations.specs.Entered.{AllAsk, AllAreLater, entered_value, Enters, HasEnds, HasOtherBodies, AllEnter}
-use Rattle.obligations.proofs.Holds.{body_lasts}
+use Rattle.obligations.proofs.Holds.{body_lasts, body_wider}
 use Rattle.obligations.proofs.InclusionLemmas.{cell-location}
 use Rattle.obligations.proofs.Entering.{all_later-lasts, claims_later, entered_now, enters_body}
 
@@ -36,10 +36,6 @@ goes_on_next c d e x g q = rw q (record {
   same = λ j h l. let k = g.longer in get_or_append_left d (x ∷ []) missing j (omega arith) ∙ g.same j h l;
 })
 
--- a body may speak of more obligations
-body_wider : (s : Diagrams) (m n : ℕ) (f : Id) → m ≤ n → IsBody s m f → IsBody s n f
-body_wider s m n f l b = record { live = b.live; over = λ x y same. b.over x y (λ v h. same v (omega arith)); truth = b.truth }
-
 -- a constant body that never holds
 never_body : (s : Diagrams) (count : ℕ) (f : Id) → Means s f (λ _. 0) → IsBody s count f
 never_body s count f m = record { live = m.live; over = λ x y same. m.value x ∙ sym (m.value y); truth = λ a. rw (m.value a) (omega arith) }
@@ -50,7 +46,7 @@ fits_next s c d ends f fits m e =
     let x : Obligation = record { ends = ends; body = f } in
     let number : length (c ++ x ∷ []) ≡ length c + 1 = length-append c (x ∷ []) in
     rw e (λ j h.
-    elim (bool_cases (nat_lt j (length c))) [
+    elim (cases_Bool (nat_lt j (length c))) [
       | inl t ↦
           let l : j < length c = grind (arith, nat_tests) in
           let r : body_of (c ++ x ∷ []) j ≡ body_of c j = ap (λ v. v.body) (get_or_append_left c (x ∷ []) missing j l) in
@@ -75,7 +71,7 @@ ends_next c d t base count ends f x e q =
     rw q (record {
       number = omega arith;
       ends = λ at h.
-          elim (bool_cases (nat_lt at count)) [
+          elim (cases_Bool (nat_lt at count)) [
             | inl u ↦
                 let l : at < count = grind (arith, nat_tests) in
                 let k : base + at < length c = omega arith in
@@ -129,7 +125,7 @@ setting_next s0 s n c d t base items count body x k f e number h claims0 claims 
     record {
       keeps = Keeps_trans s0 s n x.keeps k;
       fits = λ i q.
-          elim (bool_cases (i == j)) [
+          elim (cases_Bool (i == j)) [
             | inl u ↦
                 let g : i ≡ j = grind (arith, nat_tests) in
                 rw (g, ap (λ v. v.body) there, size, dc) is_body
@@ -140,7 +136,7 @@ setting_next s0 s n c d t base items count body x k f e number h claims0 claims 
       others = record {
         number = size ∙ dc;
         ends = λ i.
-            elim (bool_cases (i == j)) [
+            elim (cases_Bool (i == j)) [
               | inl u ↦
                   let g : i ≡ j = grind (arith, nat_tests) in
                   rw g (ap (λ v. v.ends) there ∙ x.others.ends j)
@@ -149,7 +145,7 @@ setting_next s0 s n c d t base items count body x k f e number h claims0 claims 
         before = λ i q. get_or-set_other d j i new missing (λ z. absurd (omega arith)) ∙ x.others.before i q;
       };
       bodies = λ at q.
-          elim (bool_cases (nat_lt at count)) [
+          elim (cases_Bool (nat_lt at count)) [
             | inl u ↦
                 let g : at < count = grind (arith, nat_tests) in
                 let r : body_of (slice_set d j new) (base + at) ≡ body_of d (base + at) = ap (λ v. v.body) (get_or-set_other d j (base + at) new missing (λ z. absurd (omega arith))) in
@@ -202,11 +198,11 @@ follows_after s1 s2 c1 c2 t base wider items x n d k g =
           let l : to < size_of t = (x.fits at h).targets a in
           let q = x.asks.each to l in
           let same_body : body_of d (base + at) ≡ b = ap (λ v. v.body) (g.same (base + at) (omega arith) (omega arith)) in
-          let value : eval n (body_of d (base + at)) a ≡ eval s1 (item_of items to) a =
+          let value : eval n (body_of d (base + at)) a ≡ eval s1 (id_at items to) a =
           ap (λ i. eval n i a) same_body
           ∙ eval-lasts s2 n k.was k.now k.extends b m.live a
           ∙ m.value a
-          ∙ eval-lasts s1 s2 x.keeps.was x.keeps.now x.keeps.extends (item_of items to) q.claim.live a in
+          ∙ eval-lasts s1 s2 x.keeps.was x.keeps.now x.keeps.extends (id_at items to) q.claim.live a in
           let row : eval n (row_of t at) a ≡ to = eval-lasts s2 n k.was k.now k.extends (row_of t at) (x.fits at h).live a in
           ap (λ z. z == 1) value
           ∙ q.value a

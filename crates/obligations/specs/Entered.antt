@@ -4,7 +4,7 @@ use Rattle.diagrams.specs.declared.top.Id.{Id}
 use Rattle.diagrams.specs.Tree.{Assignment}
 use Rattle.diagrams.specs.Eval.{Diagrams, DependsOn, eval}
 use Rattle.diagrams.specs.Live.{IsLive, Means}
-use Rattle.diagrams.specs.Composed.{item_of}
+use Rattle.diagrams.specs.Eval.{id_at}
 use Rattle.automata.specs.Table.{Table, mark_of, row_of, IsRow}
 use Rattle.obligations.specs.declared.cells.Obligation.{Obligation}
 use Rattle.obligations.specs.Table.{missing, ends_of, body_of}
@@ -19,7 +19,7 @@ pub record Asks (s : Diagrams) (base size : ℕ) (ats : List ℕ) (f : Id) : Typ
 -- for each of the first so many locations the diagram of those that go with it
 pub record AllAsk (s : Diagrams) (base size : ℕ) (wider : ℕ → List ℕ) (items : List Id) (count : ℕ) : Type 0 where
   pub number : length items ≡ count
-  pub each : (at : ℕ) → at < count → Asks s base size (wider at) (item_of items at)
+  pub each : (at : ℕ) → at < count → Asks s base size (wider at) (id_at items at)
 
 -- the id is live, and depends on obligations alone
 pub record IsLater (s : Diagrams) (f : Id) : Type 0 where
@@ -28,11 +28,11 @@ pub record IsLater (s : Diagrams) (f : Id) : Type 0 where
 
 -- each item is live, and depends on obligations alone
 abbrev pub AllAreLater : Diagrams → List Id → Type 0
-AllAreLater s items = (at : ℕ) → at < length items → IsLater s (item_of items at)
+AllAreLater s items = (at : ℕ) → at < length items → IsLater s (id_at items at)
 
 -- the value of the item to which a row leads
 abbrev pub entered_value : Diagrams → List Id → Id → Assignment → ℕ
-entered_value s items row a = eval s (item_of items (eval s row a)) a
+entered_value s items row a = eval s (id_at items (eval s row a)) a
 
 -- in n the id has the value of the item to which a row leads
 abbrev pub Enters : Diagrams → Diagrams → List Id → Id → Id → Type 0

@@ -1,8 +1,8 @@
 //! Diagrams for the bodies of the obligations that stand for locations.
-ghost use Rattle.std.specs.Prelude.{◌≡◌, ◌<◌, ◌+◌, ◌^◌, ℕ, length, if◌then◌else◌, IfOk};
-ghost use Rattle.diagrams.specs.Live.{IsCanonical, Keeps, Means};
+ghost use Rattle.std.specs.Prelude.{◌≡◌, ◌<◌, ◌+◌, ◌^◌, ℕ, length, IfOk};
+ghost use Rattle.diagrams.specs.Live.{IsCanonical, Keeps};
 ghost use Rattle.diagrams.specs.Kept.{AllKept};
-ghost use Rattle.diagrams.specs.Turned.{same_id};
+ghost use Rattle.diagrams.specs.Transformed.{same_id};
 ghost use Rattle.automata.specs.Table.{IsRow};
 ghost use Rattle.obligations.specs.Inclusion.{AllBelow};
 ghost use Rattle.obligations.specs.Followed.{wider_of};
@@ -13,16 +13,6 @@ use bes_io::Memory;
 use diagrams::{Id, Look, Memo, Op, Store};
 use std::alloc::Global;
 
-/// The diagram that is 1 where a variable is true, and else 0.
-fn literal(store: &mut Store, var: u32) -> Result<Id, Memory>
-    ensures keeps { Keeps store.old store.new }
-    ensures id { IfOk result (λ id. Means store.new id (λ a. if a var then 1 else 0)) }
-{
-    let lo = store.terminal(0)?;
-    let hi = store.terminal(1)?;
-    store.node(var, lo, hi)
-}
-
 /// The diagram that is 1 where the obligations of some locations are all asked of the next position, and else 0.
 fn asked(store: &mut Store, base: u32, size: u32, ats: &[u32]) -> Result<Id, Memory>
     requires few { base + size < 2 ^ 31 }
@@ -30,12 +20,11 @@ fn asked(store: &mut Store, base: u32, size: u32, ats: &[u32]) -> Result<Id, Mem
     ensures keeps { Keeps store.old store.new }
     ensures asks { IfOk result (Asks store.new base size ats.now) }
 {
-    let _ = size;
     let first = store.props() + base;
     let mut whole = store.terminal(1)?;
     // From the last on: where numbers rise, each conjunction is one node more.
     for k in (0..ats.len()).rev() {
-        let next = literal(store, first + ats[k])?;
+        let next = store.literal(first + ats[k])?;
         whole = store.combine(Op::And, next, whole)?;
     }
     Ok(whole)

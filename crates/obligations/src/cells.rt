@@ -8,7 +8,7 @@ use std::alloc::Global;
 use std::marker::Model;
 
 /// The most obligations.
-const MOST: usize = 2147483647;
+const MOST_OBLIGATIONS: usize = 2147483647;
 
 /// An obligation: its value on the empty word, and a diagram over the letter and the obligations
 /// of the next position.
@@ -84,7 +84,7 @@ impl Cells {
         ensures err { OnErr result (self.new ≡ self.old) }
     {
         let cell = self.entries.len();
-        if cell >= MOST {
+        if cell >= MOST_OBLIGATIONS {
             return Err(Memory);
         }
         self.entries.push(Obligation { ends, body })?;

@@ -3,7 +3,7 @@ ghost use Rattle.std.specs.Prelude.{◌≡◌, ◌<◌, ◌≤◌, ◌+◌, ℕ,
 ghost use Rattle.diagrams.specs.Eval.{DependsOn};
 ghost use Rattle.diagrams.specs.Live.{IsLive, Keeps};
 ghost use Rattle.diagrams.specs.Kept.{AllKept};
-ghost use Rattle.diagrams.specs.Turned.{same_id};
+ghost use Rattle.diagrams.specs.Transformed.{same_id};
 ghost use Rattle.obligations.specs.Value.{IsBody, IsClaim};
 ghost use Rattle.obligations.specs.Located.{Grows, AllClaims, Cuts, IsCut};
 
@@ -20,8 +20,7 @@ fn placed(store: &mut Store, frontier: &mut Frontier, count: u32, f: Id) -> Resu
     ensures claims { AllClaims store.new count frontier.new }
     ensures row { IfOk result (λ row. Cuts store.old store.new frontier.new f row) }
 {
-    let _ = store.look(f);
-    let _ = count;
+    prove!(store.props() <= 32);
     let at = frontier.place(f)?;
     store.terminal(at)
 }

@@ -3,7 +3,7 @@ ghost use Rattle.std.specs.Prelude.{◌≡◌, ◌<◌, ℕ, List, length, IfOk}
 ghost use Rattle.diagrams.specs.Eval.{eval};
 ghost use Rattle.diagrams.specs.Live.{IsLive, Keeps};
 ghost use Rattle.diagrams.specs.Kept.{AllKept};
-ghost use Rattle.diagrams.specs.Turned.{same_id};
+ghost use Rattle.diagrams.specs.Transformed.{same_id};
 ghost use Rattle.diagrams.specs.Composed.{IsRightFor};
 ghost use Rattle.automata.specs.Moves.{accepts};
 ghost use Rattle.automata.specs.Table.{size_of, mark_of, Fits, moves_of};
@@ -18,9 +18,6 @@ use automata::Automaton;
 use bes_io::Memory;
 use diagrams::{ComposeMemo, Id, Look, Memo, Store};
 use std::alloc::Global;
-
-/// One more than the most locations.
-const MOST: usize = 4294967295;
 
 /// The bodies of a table, in order.
 fn bodies_of(alloc: Global, cells: &Cells) -> Result<Vec<Id>, Memory>
@@ -94,7 +91,7 @@ pub fn determinise(
     ensures marks { IfOk result (λ made. (at : ℕ) → at < size_of made → mark_of made at < 2) }
     ensures accepts { IfOk result (λ made. (word : List ℕ) → accepts (moves_of store.new made) word ≡ holds store.old cells.now start word) }
 {
-    let _ = store.look(start);
+    prove!(store.props() <= 32);
     let bodies = bodies_of(alloc, cells)?;
     let mut composed = ComposeMemo::new(alloc);
     let mut cuts = Memo::new(alloc);
@@ -102,10 +99,8 @@ pub fn determinise(
     frontier.place(start)?;
     let mut rows: Vec<Id> = Vec::new(alloc);
     let mut marks: Vec<u32> = Vec::new(alloc);
-    for at in 0..MOST {
-        if at >= frontier.len() {
-            return Ok(Automaton::new(0, marks, rows));
-        }
+    let mut at = 0;
+    while at < frontier.len() {
         let claim = frontier.claim(at);
         let (row, mark) = explored(
             store,
@@ -118,6 +113,7 @@ pub fn determinise(
         )?;
         rows.push(row)?;
         marks.push(mark)?;
+        at += 1;
     }
-    Err(Memory)
+    Ok(Automaton::new(0, marks, rows))
 }

@@ -51,7 +51,7 @@ fn set_bodies(
     ensures others { HasOtherBodies base cells.old cells.new }
     ensures bodies { OnOk result (AllEnter store.new cells.new automaton.now base items.now (size_of automaton.now)) }
 {
-    let _ = store.look(automaton.row(automaton.first()));
+    prove!(store.props() <= 32);
     let mut memo = Memo::new(alloc);
     for at in 0..automaton.size() {
         let body = entered(store, &mut memo, items, automaton.row(at))?;
@@ -81,7 +81,7 @@ pub fn follow(
 {
     let base = cells.len();
     append(store, cells, automaton)?;
-    let _ = cells.len();
+    prove!(cells.len() < 2147483648);
     let items = all_asked(alloc, store, base, automaton.size(), inclusions)?;
     set_bodies(alloc, store, cells, automaton, base, &items)?;
     Ok(base)

@@ -1,6 +1,6 @@
 //! The claims that locations stand for, in order of discovery.
 ghost use Rattle.std.specs.Prelude.{◌≡◌, ◌<◌, ◌≤◌, ◌-◌, ◌^◌, ℕ, [], length, IfOk};
-ghost use Rattle.diagrams.specs.Composed.{item_of};
+ghost use Rattle.diagrams.specs.Eval.{id_at};
 ghost use Rattle.obligations.specs.Located.{Grows};
 
 use bes_io::Memory;
@@ -10,7 +10,7 @@ use std::collections::HashMap;
 use std::marker::Model;
 
 /// The most locations.
-const MOST: usize = 4294967294;
+const MOST_LOCATIONS: usize = 4294967294;
 
 /// The claims that locations stand for, in order of discovery.
 #[derive(Drop)]
@@ -53,7 +53,7 @@ impl Frontier {
     /// A claim.
     pub fn claim(&self, at: usize) -> Id
         requires { at < length self.now }
-        ensures { result ≡ item_of self.now at }
+        ensures { result ≡ id_at self.now at }
     {
         self.claims[at]
     }
@@ -61,15 +61,15 @@ impl Frontier {
     /// The number of a claim, which is put at the end where it has none.
     pub fn place(&mut self, claim: Id) -> Result<u32, Memory>
         ensures grows { Grows self.old self.new }
-        ensures others { (at : ℕ) → length self.old ≤ at → at < length self.new → item_of self.new at ≡ claim }
+        ensures others { (at : ℕ) → length self.old ≤ at → at < length self.new → id_at self.new at ≡ claim }
         ensures within { IfOk result (λ at. at < length self.new) }
-        ensures placed { IfOk result (λ at. item_of self.new at ≡ claim) }
+        ensures placed { IfOk result (λ at. id_at self.new at ≡ claim) }
     {
         if let Some(at) = self.numbers.get(&claim) {
             return Ok(*at);
         }
         let at = self.claims.len();
-        if at >= MOST {
+        if at >= MOST_LOCATIONS {
             return Err(Memory);
         }
         self.claims.push(claim)?;

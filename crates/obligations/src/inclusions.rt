@@ -5,7 +5,7 @@ ghost use Rattle.obligations.specs.Inclusion.{IsSimulation, IsWider};
 ghost use Rattle.obligations.specs.Followed.{wider_of};
 ghost use Rattle.obligations.specs.Related.{related, AreSimulators, AcceptsAll, IsWiderAt};
 
-use crate::relation::{MOST, Relation};
+use crate::relation::{MOST_RELATED, Relation};
 use crate::simulation::strike_round;
 use automata::Automaton;
 use bes_io::Memory;
@@ -139,7 +139,7 @@ pub fn find_inclusions(
     ensures wider { IfOk result (λ made. IsWider store.now automaton.now (wider_of made)) }
 {
     let size = automaton.size();
-    if size > MOST {
+    if size > MOST_RELATED {
         return themselves(alloc, store, automaton);
     }
     let mut relation = Relation::new(alloc, size)?;

@@ -14,8 +14,6 @@ mod frontier;
 mod inclusions;
 mod relation;
 mod simulation;
-#[cfg(test)]
-mod tests;
 
 pub use cells::{Cells, Obligation};
 pub use explore::determinise;

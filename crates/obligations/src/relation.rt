@@ -7,7 +7,7 @@ use std::alloc::Global;
 use std::marker::Model;
 
 /// The most locations of a relation.
-pub const MOST: u32 = 512;
+pub const MOST_RELATED: u32 = 512;
 
 /// A relation on the first so many locations.
 #[derive(Drop)]

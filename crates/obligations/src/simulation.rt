@@ -1,7 +1,6 @@
 //! The greatest simulation on the locations of an automaton, by striking out (Milner 1971; Henzinger, Henzinger and Kopke 1995).
-ghost use Rattle.std.specs.Prelude.{MatchOption, ◌≡◌, ◌<◌, ◌≤◌, ℕ, true, false, IfOk, OnOk, OnErr};
+ghost use Rattle.std.specs.Prelude.{◌≡◌, ◌<◌, ◌≤◌, ℕ, true, false, IfOk, OnOk, OnErr};
 ghost use Rattle.std.specs.HashSet as set;
-ghost use Rattle.diagrams.specs.Parts.{low_of, high_of, IsLeast, IsTerminal};
 ghost use Rattle.automata.specs.Table.{size_of, Fits};
 ghost use Rattle.obligations.specs.Inclusion.{IsSimulation};
 ghost use Rattle.obligations.specs.Related.{related, LeadsBelow, LeadsWithin, same_compared, IsKnown, IsNoted, IsSimulated, AreSimulated};
@@ -9,7 +8,7 @@ ghost use Rattle.obligations.specs.Related.{related, LeadsBelow, LeadsWithin, sa
 use crate::relation::Relation;
 use automata::Automaton;
 use bes_io::Memory;
-use diagrams::{Id, Look, Store};
+use diagrams::{Id, Look, Store, cofactors, least_variable};
 use std::alloc::Global;
 use std::collections::HashSet;
 
@@ -18,30 +17,6 @@ use std::collections::HashSet;
 pub struct Compared {
     pub lower: Id,
     pub upper: Id,
-}
-
-/// The parts of a diagram at a variable.
-fn parts(id: Id, top: Look, var: u32) -> (Id, Id)
-    ensures low { result.0 ≡ low_of id top var }
-    ensures high { result.1 ≡ high_of id top var }
-{
-    match top {
-        Look::Node { var: own, lo, hi } if own == var => (lo, hi),
-        _ => (id, id),
-    }
-}
-
-/// The least variable at two tops, if there is one.
-#[tactic(auto, unfolding(diagrams::specs::Eval::limit))]
-fn least(f: Look, g: Look) -> Option<u32>
-    ensures { MatchOption result (IsTerminal f × IsTerminal g) (IsLeast f g) }
-{
-    match (f, g) {
-        (Look::Terminal(_), Look::Terminal(_)) => None,
-        (Look::Node { var, .. }, Look::Terminal(_)) => Some(var),
-        (Look::Terminal(_), Look::Node { var, .. }) => Some(var),
-        (Look::Node { var, .. }, Look::Node { var: other, .. }) => Some(var.min(other)),
-    }
 }
 
 /// Notes that the targets of two rows are related.
@@ -76,11 +51,11 @@ fn leads_within(
     if known.contains(&both) {
         return Ok(true);
     }
-    let Some(var) = least(f_top, g_top) else {
+    let Some(var) = least_variable(f_top, g_top) else {
         unreachable!()
     };
-    let (f_lo, f_hi) = parts(f, f_top, var);
-    let (g_lo, g_hi) = parts(g, g_top, var);
+    let (f_lo, f_hi) = cofactors(f, f_top, var);
+    let (g_lo, g_hi) = cofactors(g, g_top, var);
     if !leads_within(store, relation, known, f_lo, g_lo)? {
         return Ok(false);
     }

@@ -7,25 +7,26 @@ use Rattle.forms.specs.Satisfaction.{sat, goes}
 use Rattle.forms.proofs.Leads.{IsInward-goes}
 use Rattle.diagrams.specs.declared.top.Id.{Id}
 use Rattle.diagrams.specs.Tree.{Assignment}
-use Rattle.diagrams.specs.Eval.{Diagrams}
+use Rattle.diagrams.specs.Eval.{Diagrams, is_one}
 use Rattle.diagrams.specs.Live.{IsLive, Keeps}
 use Rattle.diagrams.proofs.Meaning.{Keeps_trans, live_lasts}
 use Rattle.automata.specs.Table.{Table, size_of, IsMeant}
 use Rattle.automata.proofs.Lasts.{meant_lasts}
+use Rattle.automata.proofs.Everywhere.{IsMeant-everywhere}
 use Rattle.obligations.specs.declared.cells.Obligation.{Obligation}
 use Rattle.obligations.specs.Table.{missing, ends_of, body_of, with_body}
 use Rattle.obligations.specs.Value.{by_values, cell, holds, IsClaim, IsBody, FitsCells}
 use Rattle.obligations.specs.Followed.{HasFrom, StandsFor}
 use Rattle.obligations.proofs.Holds.{claim_lasts, body_lasts}
 use Rattle.path_programs.specs.declared.lead.Lead.{Lead}
-use Rattle.path_programs.specs.Made.{test, says, IsOneWhere}
+use Rattle.path_programs.specs.Made.{truth_of, IsOneWhere}
 use Rattle.path_programs.specs.Growth.{HasGrown}
 use Rattle.path_programs.specs.Lead.{AreBodies, IsLead, IsRest, IsEither, IsInTurn}
 use Rattle.path_programs.proofs.Making.{test_lasts, one_same, one_lasts, one_body, claim_same, body_same, body_more}
 use Rattle.path_programs.proofs.Growing.{from_later, from_earlier, set-length, set-there, set-others}
 use Rattle.path_programs.proofs.Resting.{asked}
 use Rattle.path_programs.proofs.Leads.{leads-step, leads-test, leads-choice, leads-seq, leads-star}
-use Rattle.path_programs.proofs.Conditions.{says-joint, says-same}
+use Rattle.path_programs.proofs.Conditions.{truth_of-joint, truth_of-same}
 
 -- the bodies of a lead in a later store, and with more obligations
 pub bodies_last : (s n : Diagrams) → Keeps s n → (count more : ℕ) (l : Lead) → count ≤ more → AreBodies s count l → AreBodies n more l
@@ -35,41 +36,42 @@ bodies_last s n k count more l h b = record {
 }
 
 -- the diagrams of a step are bodies
-pub bodies_step : (s0 s1 s2 s3 : Diagrams) → Keeps s0 s1 → Keeps s1 s2 → Keeps s2 s3 → (f : Formula) → IsProper s0.props f → (now later : Id) (l : Lead) → IsOneWhere s1 now (says f)
-    → IsOneWhere s2 l.further (λ a. test s1 now a && test s1 later a) → IsOneWhere s3 l.stays (λ _. false) → (count : ℕ) → IsClaim s0 count later → AreBodies s3 count l
+pub bodies_step : (s0 s1 s2 s3 : Diagrams) → Keeps s0 s1 → Keeps s1 s2 → Keeps s2 s3 → (f : Formula) → IsProper s0.props f → (now later : Id) (l : Lead) → IsOneWhere s1 now (truth_of f)
+    → IsOneWhere s2 l.further (λ a. is_one s1 now a && is_one s1 later a) → IsOneWhere s3 l.stays (λ _. false) → (count : ℕ) → IsClaim s0 count later → AreBodies s3 count l
 bodies_step s0 s1 s2 s3 k1 k2 k3 f proper now later l o m z count claim =
     let e : s3.props ≡ s0.props = (Keeps_trans s0 s1 s3 k1 (Keeps_trans s1 s2 s3 k2 k3)).extends.props in
-    let g : Assignment → Bool = λ a. says f a && test s0 later a in
+    let g : Assignment → Bool = λ a. truth_of f a && is_one s0 later a in
     record {
       further = one_body s3 l.further g count
-          (one_same s3 l.further (λ a. test s1 now a && test s1 later a) g (one_lasts s2 s3 k3 l.further (λ a. test s1 now a && test s1 later a) m)
+          (one_same s3 l.further (λ a. is_one s1 now a && is_one s1 later a) g (one_lasts s2 s3 k3 l.further (λ a. is_one s1 now a && is_one s1 later a) m)
           (λ a. rw (o.value a, test_lasts s0 s1 k1 later claim.live a) refl))
-          (λ a b same. rw (says-same s0.props f proper a b (λ i h. same i (omega arith)), claim_same s0 count later claim a b (λ v h. let u : v < s0.props + count = h.1 in same v (omega arith))) refl);
+          (λ a b same. rw (truth_of-same s0.props f proper a b (λ i h. same i (omega arith)), claim_same s0 count later claim a b (λ v h. let u : v < s0.props + count = h.1 in same v (omega arith))) refl);
       stays = one_body s3 l.stays (λ _. false) count z (λ a b same. refl);
     }
 
 -- a step reads a letter before which its formula holds, and what comes later holds after it
-pub lead_step : (s0 s1 s2 s3 : Diagrams) → Keeps s0 s1 → Keeps s1 s2 → Keeps s2 s3 → (f : Formula) → IsPropositional f → IsProper s0.props f → (now later : Id) (l : Lead) → IsOneWhere s1 now (says f)
-    → IsOneWhere s2 l.further (λ a. test s1 now a && test s1 later a) → IsOneWhere s3 l.stays (λ _. false) → l.ends ≡ false → IsLive s0 later
+pub lead_step : (s0 s1 s2 s3 : Diagrams) → Keeps s0 s1 → Keeps s1 s2 → Keeps s2 s3 → (f : Formula) → IsPropositional f → IsProper s0.props f → (now later : Id) (l : Lead) → IsOneWhere s1 now (truth_of f)
+    → IsOneWhere s2 l.further (λ a. is_one s1 now a && is_one s1 later a) → IsOneWhere s3 l.stays (λ _. false) → l.ends ≡ false → IsLive s0 later
     → (from : ℕ) (c : List Obligation) → IsClaim s0 (length c) later → IsLead s3 from c (Step f) later l
 lead_step s0 s1 s2 s3 k1 k2 k3 f plain proper now later l o m z e live from c claim = λ n d k grows.
     let t2 = Keeps_trans s2 s3 n k3 k in
     let t1 = Keeps_trans s1 s2 n k2 t2 in
     let t0 = Keeps_trans s0 s1 n k1 t1 in
-    leads-step n d (length c) (λ w. sat n.props f w) later (claim_lasts s0 n t0 (length c) later claim) (says f)
-    (λ a w. says-joint n.props f plain (rw t0.extends.props proper) a (cell n d w) w) l
-    (λ a. (one_lasts s2 n t2 l.further (λ a. test s1 now a && test s1 later a) m).value a ∙ rw (o.value a, sym (test_lasts s1 n t1 later (live_lasts s0 s1 k1.extends later live) a)) refl)
+    leads-step n d (length c) (λ w. sat n.props f w) later (claim_lasts s0 n t0 (length c) later claim) (truth_of f)
+    (λ a w. truth_of-joint n.props f plain (rw t0.extends.props proper) a (cell n d w) w) l
+    (λ a. (one_lasts s2 n t2 l.further (λ a. is_one s1 now a && is_one s1 later a) m).value a ∙ rw (o.value a, sym (test_lasts s1 n t1 later (live_lasts s0 s1 k1.extends later live) a)) refl)
     (λ a. (one_lasts s3 n k l.stays (λ _. false) z).value a) e
 
 -- a test stays where the obligation of the first location holds
 pub lead_test : (s0 s1 s2 : Diagrams) → Keeps s0 s1 → Keeps s1 s2 → (c : List Obligation) (t : Table) (from base j : ℕ) → base ≡ from → StandsFor s2 c t base → t.first < size_of t → j ≡ base + t.first → j < length c
     → (l : Lead) → IsOneWhere s1 l.further (λ _. false) → l.stays ≡ body_of c j → l.ends ≡ ends_of c j
-    → (f : Formula) (later : Id) → (t.first < size_of t → IsMeant s0 t f) → IsLead s2 from c (Test f) later l
-lead_test s0 s1 s2 k1 k2 c t from base j start stands h e lj l z body ends f later meant = λ n d k grows.
-    let m : IsMeant s2 t f = meant_lasts s0 s2 (Keeps_trans s0 s1 s2 k1 k2) t f h (meant h) in
+    → (f : Formula) (later : Id) → IsProper s0.props f → (t.first < size_of t → IsMeant s0 t f) → IsLead s2 from c (Test f) later l
+lead_test s0 s1 s2 k1 k2 c t from base j start stands h e lj l z body ends f later proper meant = λ n d k grows.
+    let both = Keeps_trans s0 s1 s2 k1 k2 in
+    let m : IsMeant s2 t f = meant_lasts s0 s2 both t f h (meant h) in
     let same : slice_index_or d j missing ≡ slice_index_or c j missing = grows.same j (omega arith) lj in
     leads-test n d (λ w. sat n.props f w) (holds n d later) j
-    (λ w. ap (cell n d w) e ∙ stands n d k (from_later from base c d (omega arith) grows) t.first h w ∙ m.same w ∙ ap (λ p. sat p f w) (sym k.extends.props)) l
+    (λ w. ap (cell n d w) e ∙ stands n d k (from_later from base c d (omega arith) grows) t.first h w ∙ IsMeant-everywhere s2 t f (rw both.extends.props proper) m w ∙ ap (λ p. sat p f w) (sym k.extends.props)) l
     (λ a. (one_lasts s1 n (Keeps_trans s1 s2 n k2 k) l.further (λ _. false) z).value a)
     (body ∙ ap (λ o. o.body) (sym same)) (ends ∙ ap (λ o. o.ends) (sym same))
 
@@ -78,9 +80,9 @@ pub bodies_either : (s n : Diagrams) → Keeps s n → (count : ℕ) (x y l : Le
 bodies_either s n k count x y l p q m =
     let e : n.props ≡ s.props = k.extends.props in
     record {
-      further = one_body n l.further (λ a. test s x.further a || test s y.further a) count m.further
+      further = one_body n l.further (λ a. is_one s x.further a || is_one s y.further a) count m.further
           (λ a b same. rw (body_same s count x.further p.further a b (λ v h. same v (omega arith)), body_same s count y.further q.further a b (λ v h. same v (omega arith))) refl);
-      stays = one_body n l.stays (λ a. test s x.stays a || test s y.stays a) count m.stays
+      stays = one_body n l.stays (λ a. is_one s x.stays a || is_one s y.stays a) count m.stays
           (λ a b same. rw (body_same s count x.stays p.stays a b (λ v h. same v (omega arith)), body_same s count y.stays q.stays a b (λ v h. same v (omega arith))) refl);
     }
 
@@ -95,9 +97,9 @@ lead_choice s1 s2 s3 c0 c1 c2 g k3 h p q later x y l ly lx by bx m = λ n d k fr
     leads-choice n d (goes n.props p) (goes n.props q) (holds n d later) x y l
     (lx n d t2 (from_later (length c0) (length c1) c2 d h from))
     (ly n d t1 (from_earlier (length c0) c1 c2 d g.grows from))
-    (λ a. (one_lasts s3 n k l.further (λ a. test s2 x.further a || test s2 y.further a) m.further).value a
+    (λ a. (one_lasts s3 n k l.further (λ a. is_one s2 x.further a || is_one s2 y.further a) m.further).value a
     ∙ rw (sym (test_lasts s2 n t2 x.further bx.further.live a), sym (test_lasts s2 n t2 y.further (live y.further by.further.live) a)) refl)
-    (λ a. (one_lasts s3 n k l.stays (λ a. test s2 x.stays a || test s2 y.stays a) m.stays).value a
+    (λ a. (one_lasts s3 n k l.stays (λ a. is_one s2 x.stays a || is_one s2 y.stays a) m.stays).value a
     ∙ rw (sym (test_lasts s2 n t2 x.stays bx.stays.live a), sym (test_lasts s2 n t2 y.stays (live y.stays by.stays.live) a)) refl)
     m.ends
 
@@ -106,13 +108,13 @@ pub bodies_in_turn : (s n : Diagrams) → Keeps s n → (count : ℕ) (x y l : L
 bodies_in_turn s n k count x y l p q m =
     let e : n.props ≡ s.props = k.extends.props in
     record {
-      further = one_body n l.further (λ a. test s x.further a || test s x.stays a && test s y.further a) count m.further
+      further = one_body n l.further (λ a. is_one s x.further a || is_one s x.stays a && is_one s y.further a) count m.further
           (λ a b same. rw (
             body_same s count x.further p.further a b (λ v h. same v (omega arith)),
             body_same s count x.stays p.stays a b (λ v h. same v (omega arith)),
             body_same s count y.further q.further a b (λ v h. same v (omega arith)),
           ) refl);
-      stays = one_body n l.stays (λ a. test s x.stays a && test s y.stays a) count m.stays
+      stays = one_body n l.stays (λ a. is_one s x.stays a && is_one s y.stays a) count m.stays
           (λ a b same. rw (body_same s count x.stays p.stays a b (λ v h. same v (omega arith)), body_same s count y.stays q.stays a b (λ v h. same v (omega arith))) refl);
     }
 
@@ -132,15 +134,15 @@ lead_seq s1 s2 s3 s4 c0 c1 c2 c3 g2 g3 k4 h p q later next x y l ly rest lx by b
     leads-seq n d (goes n.props p) (goes n.props q) (IsInward-goes n.props q) (holds n d later) (holds n d next)
     (rest n d (goes n.props q) t2 (from_later (length c0) (length c1) c2 d h at2) second)
     x y l (lx n d t3 (from_later (length c0) (length c2) c3 d (omega arith) from)) second
-    (λ a. (one_lasts s4 n k l.further (λ a. test s3 x.further a || test s3 x.stays a && test s3 y.further a) m.further).value a
+    (λ a. (one_lasts s4 n k l.further (λ a. is_one s3 x.further a || is_one s3 x.stays a && is_one s3 y.further a) m.further).value a
     ∙ rw (sym (test_lasts s3 n t3 x.further bx.further.live a), sym (test_lasts s3 n t3 x.stays bx.stays.live a), sym (test_lasts s3 n t3 y.further (live y.further by.further.live) a)) refl)
-    (λ a. (one_lasts s4 n k l.stays (λ a. test s3 x.stays a && test s3 y.stays a) m.stays).value a
+    (λ a. (one_lasts s4 n k l.stays (λ a. is_one s3 x.stays a && is_one s3 y.stays a) m.stays).value a
     ∙ rw (sym (test_lasts s3 n t3 x.stays bx.stays.live a), sym (test_lasts s3 n t3 y.stays (live y.stays by.stays.live) a)) refl)
     m.ends
 
 -- c1 is the table with the obligation j of a further turn, c2 after the path; then the body of j is set
 pub lead_star : (s0 s1 s2 s3 : Diagrams) → Keeps s0 s1 → (c0 c1 c2 : List Obligation) → HasGrown s1 c1 s2 c2 → Keeps s2 s3 → (j : ℕ) → j ≡ length c0 → length c1 ≡ length c0 + 1 → ends_of c1 (length c0) ≡ false
-    → (p : Program) (later next : Id) (x l : Lead) → IsLive s0 later → IsOneWhere s1 next (λ a. a (s1.props + length c0) || test s0 later a) → IsLead s2 (length c1) c2 p next x
+    → (p : Program) (later next : Id) (x l : Lead) → IsLive s0 later → IsOneWhere s1 next (λ a. a (s1.props + length c0) || is_one s0 later a) → IsLead s2 (length c1) c2 p next x
     → l.further ≡ x.further → IsOneWhere s3 l.stays (λ _. true) → l.ends ≡ true → (c3 : List Obligation) → c3 ≡ with_body c2 j x.further → IsLead s3 (length c0) c3 (Star p) later l
 lead_star s0 s1 s2 s3 k1 c0 c1 c2 g k3 j e one ends p later next x l live o lx same_further z true_end c3 set = λ n d k from.
     let t2 = Keeps_trans s2 s3 n k3 k in
@@ -156,7 +158,7 @@ lead_star s0 s1 s2 s3 k1 c0 c1 c2 g k3 j e one ends p later next x l live o lx s
       same = λ i h m. from.same i (omega arith) (omega arith) ∙ rw set (set-others c2 j i x.further (λ u. omega arith));
     } in
     leads-star n d (goes n.props p) (holds n d later) (holds n d next) j
-    (λ w. (one_lasts s1 n t1 next (λ a. a (s1.props + length c0) || test s0 later a) o).value (by_values n.props (cell n d w))
+    (λ w. (one_lasts s1 n t1 next (λ a. a (s1.props + length c0) || is_one s0 later a) o).value (by_values n.props (cell n d w))
     ∙ rw (asked s1.props n t1.extends.props d w (length c0), sym (test_lasts s0 n t0 later live (by_values n.props (cell n d w))), sym e) refl)
     x (lx n d t2 inner) (ap (λ o. o.ends) own ∙ was) (ap (λ o. o.body) own)
     l same_further (λ a. (one_lasts s3 n k l.stays (λ _. true) z).value a) true_end

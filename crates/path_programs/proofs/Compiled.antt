@@ -6,9 +6,9 @@ use Rattle.forms.specs.Word.{Word}
 use Rattle.forms.specs.Paths.{reaches}
 use Rattle.forms.specs.Tree.{Program}
 use Rattle.forms.specs.Satisfaction.{goes}
-use Rattle.forms.proofs.Ahead.{reaches-agree}
+use Rattle.forms.proofs.Further.{reaches-agree}
 use Rattle.diagrams.specs.declared.top.Id.{Id}
-use Rattle.diagrams.specs.Eval.{Diagrams}
+use Rattle.diagrams.specs.Eval.{Diagrams, is_one}
 use Rattle.diagrams.specs.Live.{IsLive, Keeps}
 use Rattle.diagrams.proofs.Meaning.{Keeps_trans}
 use Rattle.obligations.specs.declared.cells.Obligation.{Obligation}
@@ -16,7 +16,7 @@ use Rattle.obligations.specs.Table.{missing, ends_of, body_of}
 use Rattle.obligations.specs.Value.{cell, holds, IsBody, FitsCells}
 use Rattle.obligations.specs.Followed.{HasFrom}
 use Rattle.path_programs.specs.declared.lead.Lead.{Lead}
-use Rattle.path_programs.specs.Made.{test, IsOneWhere}
+use Rattle.path_programs.specs.Made.{IsOneWhere}
 use Rattle.path_programs.specs.Growth.{HasGrown}
 use Rattle.path_programs.specs.Lead.{Leads, AreBodies, IsLead}
 use Rattle.path_programs.proofs.Making.{test_lasts, one_same, one_body, body_same}
@@ -26,18 +26,18 @@ use Rattle.path_programs.proofs.Leads.{cell-compiled}
 
 -- the body of the whole, by the diagrams after the walk
 pub whole_says : (s2 s3 s4 : Diagrams) → Keeps s2 s3 → Keeps s3 s4 → (l : Lead) (then here body : Id) → IsLive s2 l.further
-    → IsOneWhere s3 here (λ a. test s2 l.stays a && test s2 then a) → IsOneWhere s4 body (λ a. test s3 l.further a || test s3 here a)
-    → IsOneWhere s4 body (λ a. test s2 l.further a || test s2 l.stays a && test s2 then a)
+    → IsOneWhere s3 here (λ a. is_one s2 l.stays a && is_one s2 then a) → IsOneWhere s4 body (λ a. is_one s3 l.further a || is_one s3 here a)
+    → IsOneWhere s4 body (λ a. is_one s2 l.further a || is_one s2 l.stays a && is_one s2 then a)
 whole_says s2 s3 s4 k3 k4 l then here body live h o =
-    one_same s4 body (λ a. test s3 l.further a || test s3 here a) (λ a. test s2 l.further a || test s2 l.stays a && test s2 then a) o
+    one_same s4 body (λ a. is_one s3 l.further a || is_one s3 here a) (λ a. is_one s2 l.further a || is_one s2 l.stays a && is_one s2 then a) o
     (λ a. rw (test_lasts s2 s3 k3 l.further live a, h.value a) refl)
 
 -- the body of the whole is one
 pub whole_body : (s2 s4 : Diagrams) → Keeps s2 s4 → (count : ℕ) (l : Lead) (then body : Id) → AreBodies s2 count l → IsBody s2 count then
-    → IsOneWhere s4 body (λ a. test s2 l.further a || test s2 l.stays a && test s2 then a) → IsBody s4 count body
+    → IsOneWhere s4 body (λ a. is_one s2 l.further a || is_one s2 l.stays a && is_one s2 then a) → IsBody s4 count body
 whole_body s2 s4 k count l then body b t o =
     let e : s4.props ≡ s2.props = k.extends.props in
-    one_body s4 body (λ a. test s2 l.further a || test s2 l.stays a && test s2 then a) count o
+    one_body s4 body (λ a. is_one s2 l.further a || is_one s2 l.stays a && is_one s2 then a) count o
     (λ a b' same. rw (
       body_same s2 count l.further b.further a b' (λ v h. same v (omega arith)),
       body_same s2 count l.stays b.stays a b' (λ v h. same v (omega arith)),
@@ -47,7 +47,7 @@ whole_body s2 s4 k count l then body b t o =
 -- the obligation that was added holds where the path leads to where `then` holds
 pub compiled : (s0 s1 s2 s4 : Diagrams) → Keeps s0 s1 → Keeps s1 s2 → Keeps s2 s4 → (c d e : List Obligation) → length c ≤ length d → (then : ℕ) → then < length d → (x : Program) (later : Id) (l : Lead)
     → IsOneWhere s1 later (λ a. a (s1.props + then)) → FitsCells s2 d → AreBodies s2 (length d) l → IsLead s2 (length c) d x later l → (o : Obligation) → e ≡ d ++ o ∷ [] → o.ends ≡ (l.ends && ends_of d then)
-    → IsOneWhere s4 o.body (λ a. test s2 l.further a || test s2 l.stays a && test s2 (body_of d then) a)
+    → IsOneWhere s4 o.body (λ a. is_one s2 l.further a || is_one s2 l.stays a && is_one s2 (body_of d then) a)
     → (word : Word) → cell s4 e word (length d) ≡ reaches (λ u v. goes s0.props x u v) (λ v. cell s4 e v then) word
 compiled s0 s1 s2 s4 k1 k2 k4 c d e lc then lt x later l p fits b lead o added ends body word =
     let p4 : s4.props ≡ s0.props = (Keeps_trans s0 s1 s4 k1 (Keeps_trans s1 s2 s4 k2 k4)).extends.props in
@@ -59,13 +59,13 @@ compiled s0 s1 s2 s4 k1 k2 k4 c d e lc then lt x later l p fits b lead o added e
     cell-compiled s4 e (goes s4.props x) (holds s4 e later) then (length d) same l leads
     (ap (λ y. y.ends) new ∙ ends ∙ ap (λ y. l.ends && y.ends) (sym old))
     (λ a.
-    ap (λ y. test s4 y.body a) new
+    ap (λ y. is_one s4 y.body a) new
     ∙ body.value a
     ∙ rw (
       sym (test_lasts s2 s4 k4 l.further b.further.live a),
       sym (test_lasts s2 s4 k4 l.stays b.stays.live a),
       sym (test_lasts s2 s4 k4 (body_of d then) (fits then lt).live a),
-    ) (ap (λ y. test s4 l.further a || test s4 l.stays a && test s4 y.body a) (sym old)))
+    ) (ap (λ y. is_one s4 l.further a || is_one s4 l.stays a && is_one s4 y.body a) (sym old)))
     word
     ∙ ap (λ q. reaches (goes q x) (holds s4 e later) word) p4
     ∙ reaches-agree (goes s0.props x) (holds s4 e later) (λ v. cell s4 e v then) word (λ v u. same v)
@@ -73,7 +73,7 @@ compiled s0 s1 s2 s4 k1 k2 k4 c d e lc then lt x later l p fits b lead o added e
 -- the same, the obligation being added last
 pub compiled_ok : {E : Type 0} (r : Result ℕ E) (s0 s1 s2 s4 : Diagrams) → Keeps s0 s1 → Keeps s1 s2 → Keeps s2 s4 → (c d e : List Obligation) → length c ≤ length d → (then : ℕ) → then < length d → (x : Program) (later : Id) (l : Lead)
     → IsOneWhere s1 later (λ a. a (s1.props + then)) → FitsCells s2 d → AreBodies s2 (length d) l → IsLead s2 (length c) d x later l → (o : Obligation) → IfOk r (λ j. j ≡ length d) → OnOk r (e ≡ d ++ o ∷ [])
-    → o.ends ≡ (l.ends && ends_of d then) → IsOneWhere s4 o.body (λ a. test s2 l.further a || test s2 l.stays a && test s2 (body_of d then) a)
+    → o.ends ≡ (l.ends && ends_of d then) → IsOneWhere s4 o.body (λ a. is_one s2 l.further a || is_one s2 l.stays a && is_one s2 (body_of d then) a)
     → IfOk r (λ j. (word : Word) → cell s4 e word j ≡ reaches (λ u v. goes s0.props x u v) (λ v. cell s4 e v then) word)
 compiled_ok (Ok j) s0 s1 s2 s4 k1 k2 k4 c d e lc then lt x later l p fits b lead o number added ends body = λ word.
     ap (cell s4 e word) number ∙ compiled s0 s1 s2 s4 k1 k2 k4 c d e lc then lt x later l p fits b lead o added ends body word

@@ -4,7 +4,7 @@ use Rattle.std.specs.Prelude.{nat_lt, ◌==◌}
 use Rattle.std.proofs.lemmas.Bool.Decides.{nat_tests}
 use Rattle.diagrams.specs.Tree.{Assignment}
 use Rattle.diagrams.specs.Eval.{Diagrams, eval}
-use Rattle.diagrams.proofs.Table.{bool_cases}
+use Rattle.std.proofs.lemmas.Bool.{cases_Bool}
 use Rattle.obligations.specs.declared.cells.Obligation.{Obligation}
 use Rattle.obligations.specs.Value.{joint, cell, FitsCells}
 use Rattle.obligations.specs.Followed.{GoesOn}
@@ -13,7 +13,7 @@ use Rattle.path_programs.specs.Growth.{HasGrown}
 
 joint-before : (p letter : ℕ) (x y : ℕ → Bool) (count v : ℕ) → ((j : ℕ) → j < count → x j ≡ y j) → v < p + count → joint p letter x v ≡ joint p letter y v
 joint-before p letter x y count v same h =
-    elim (bool_cases (nat_lt v p)) [
+    elim (cases_Bool (nat_lt v p)) [
       | inl t ↦ rw t refl
       | inr t ↦ let l : v - p < count = grind (arith, nat_tests) in rw t (same (v - p) l)
     ]

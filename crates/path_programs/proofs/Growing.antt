@@ -8,7 +8,7 @@ use Rattle.diagrams.specs.declared.top.Id.{Id}
 use Rattle.diagrams.specs.Eval.{Diagrams}
 use Rattle.diagrams.specs.Live.{Keeps}
 use Rattle.diagrams.proofs.Meaning.{Keeps_trans}
-use Rattle.diagrams.proofs.Table.{bool_cases}
+use Rattle.std.proofs.lemmas.Bool.{cases_Bool}
 use Rattle.obligations.specs.declared.cells.Obligation.{Obligation}
 use Rattle.obligations.specs.Table.{missing, ends_of, body_of, with_body}
 use Rattle.obligations.specs.Value.{IsBody, FitsCells}
@@ -69,7 +69,7 @@ pub fits_add : (s : Diagrams) (c : List Obligation) (o : Obligation) → FitsCel
 fits_add s c o f b j h =
     let e : length (c ++ o ∷ []) ≡ length c + 1 = more-one c o in
     let P : Obligation → Type 0 = λ x. IsBody s (length (c ++ o ∷ [])) x.body in
-    elim (bool_cases (nat_lt j (length c))) [
+    elim (cases_Bool (nat_lt j (length c))) [
       | inl t ↦
           let l : j < length c = grind (arith, nat_tests) in
           let more : length c ≤ length (c ++ o ∷ []) = omega arith in
@@ -108,7 +108,7 @@ pub fits_set : (s : Diagrams) (c : List Obligation) (j : ℕ) (x : Id) → FitsC
 fits_set s c j x f l b i h =
     let e : length (with_body c j x) ≡ length c = set-length c j x in
     let P : Obligation → Type 0 = λ o. IsBody s (length (with_body c j x)) o.body in
-    elim (bool_cases (i == j)) [
+    elim (cases_Bool (i == j)) [
       | inl t ↦
           let u : i ≡ j = eqb-true i j t in
           let there : slice_index_or (with_body c j x) i missing ≡ record { ends = ends_of c j; body = x } = rw u (set-there c j x l) in

@@ -9,4 +9,3 @@ pub mod TestLists
 pub mod Arms
 pub mod Earlier
 pub mod Compiled
-pub mod TestLemmas

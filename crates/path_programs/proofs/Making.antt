@@ -5,12 +5,12 @@ use Rattle.std.proofs.lemmas.Result.{IfOk-weaker}
 use Rattle.forms.specs.Operators.{agree}
 use Rattle.diagrams.specs.declared.top.Id.{Id}
 use Rattle.diagrams.specs.Tree.{Assignment}
-use Rattle.diagrams.specs.Eval.{Diagrams, DependsOn, eval}
+use Rattle.diagrams.specs.Eval.{Diagrams, DependsOn, eval, is_one}
 use Rattle.diagrams.specs.Live.{IsLive, IsTruth, Keeps, Means}
 use Rattle.diagrams.specs.Composed.{IsObligation}
 use Rattle.diagrams.proofs.Meaning.{eval-lasts, live_lasts}
 use Rattle.obligations.specs.Value.{IsClaim, IsBody}
-use Rattle.path_programs.specs.Made.{test, IsOneWhere}
+use Rattle.path_programs.specs.Made.{IsOneWhere}
 
 min-and : (x y : ℕ) → x < 2 → y < 2 → (min x y == 1) ≡ (x == 1 && y == 1)
 min-and zero zero h k = refl
@@ -58,23 +58,23 @@ one_by_value n id g f h e m = record {
 
 -- both of two
 pub one_both : {E : Type 0} (r : Result Id E) (s n : Diagrams) (f g : Id) → IsTruth s f → IsTruth s g → IfOk r (λ id. Means n id (λ a. min (eval s f a) (eval s g a)))
-    → IfOk r (λ id. IsOneWhere n id (λ a. test s f a && test s g a))
-one_both r s n f g p q ok = IfOk-weaker r (λ id. Means n id (λ a. min (eval s f a) (eval s g a))) (λ id. IsOneWhere n id (λ a. test s f a && test s g a))
-    (λ id m. one_by_value n id (λ a. min (eval s f a) (eval s g a)) (λ a. test s f a && test s g a)
+    → IfOk r (λ id. IsOneWhere n id (λ a. is_one s f a && is_one s g a))
+one_both r s n f g p q ok = IfOk-weaker r (λ id. Means n id (λ a. min (eval s f a) (eval s g a))) (λ id. IsOneWhere n id (λ a. is_one s f a && is_one s g a))
+    (λ id m. one_by_value n id (λ a. min (eval s f a) (eval s g a)) (λ a. is_one s f a && is_one s g a)
     (λ a. let h = p.truth a in omega arith) (λ a. min-and (eval s f a) (eval s g a) (p.truth a) (q.truth a)) m) ok
 
 -- one of two
 pub one_either : {E : Type 0} (r : Result Id E) (s n : Diagrams) (f g : Id) → IsTruth s f → IsTruth s g → IfOk r (λ id. Means n id (λ a. max (eval s f a) (eval s g a)))
-    → IfOk r (λ id. IsOneWhere n id (λ a. test s f a || test s g a))
-one_either r s n f g p q ok = IfOk-weaker r (λ id. Means n id (λ a. max (eval s f a) (eval s g a))) (λ id. IsOneWhere n id (λ a. test s f a || test s g a))
-    (λ id m. one_by_value n id (λ a. max (eval s f a) (eval s g a)) (λ a. test s f a || test s g a)
+    → IfOk r (λ id. IsOneWhere n id (λ a. is_one s f a || is_one s g a))
+one_either r s n f g p q ok = IfOk-weaker r (λ id. Means n id (λ a. max (eval s f a) (eval s g a))) (λ id. IsOneWhere n id (λ a. is_one s f a || is_one s g a))
+    (λ id m. one_by_value n id (λ a. max (eval s f a) (eval s g a)) (λ a. is_one s f a || is_one s g a)
     (λ a. let h = p.truth a in let k = q.truth a in omega arith) (λ a. max-or (eval s f a) (eval s g a) (p.truth a) (q.truth a)) m) ok
 
 -- both of two or neither
 pub one_agreeing : {E : Type 0} (r : Result Id E) (s n : Diagrams) (f g : Id) → IsTruth s f → IsTruth s g → IfOk r (λ id. Means n id (λ a. if eval s f a == eval s g a then 1 else 0))
-    → IfOk r (λ id. IsOneWhere n id (λ a. agree (test s f a) (test s g a)))
-one_agreeing r s n f g p q ok = IfOk-weaker r (λ id. Means n id (λ a. if eval s f a == eval s g a then 1 else 0)) (λ id. IsOneWhere n id (λ a. agree (test s f a) (test s g a)))
-    (λ id m. one_by_value n id (λ a. if eval s f a == eval s g a then 1 else 0) (λ a. agree (test s f a) (test s g a))
+    → IfOk r (λ id. IsOneWhere n id (λ a. agree (is_one s f a) (is_one s g a)))
+one_agreeing r s n f g p q ok = IfOk-weaker r (λ id. Means n id (λ a. if eval s f a == eval s g a then 1 else 0)) (λ id. IsOneWhere n id (λ a. agree (is_one s f a) (is_one s g a)))
+    (λ id m. one_by_value n id (λ a. if eval s f a == eval s g a then 1 else 0) (λ a. agree (is_one s f a) (is_one s g a))
     (λ a. choice_small (eval s f a == eval s g a)) (λ a. equal-agree (eval s f a) (eval s g a) (p.truth a) (q.truth a)) m) ok
 
 -- a constant
@@ -98,7 +98,7 @@ pub one_truth : (n : Diagrams) (id : Id) (f : Assignment → Bool) → IsOneWher
 one_truth n id f m = record { live = m.live; truth = m.truth }
 
 -- whether a diagram is 1, in a later store
-pub test_lasts : (s n : Diagrams) → Keeps s n → (f : Id) → IsLive s f → (a : Assignment) → test n f a ≡ test s f a
+pub test_lasts : (s n : Diagrams) → Keeps s n → (f : Id) → IsLive s f → (a : Assignment) → is_one n f a ≡ is_one s f a
 test_lasts s n k f l a = ap (λ x. x == 1) (eval-lasts s n k.was k.now k.extends f l a)
 
 -- the same in a later store
@@ -135,11 +135,11 @@ pub one_claim : (n : Diagrams) (id : Id) (f : Assignment → Bool) (count : ℕ)
 one_claim n id f count m h = record { live = m.live; over = one_over n id f (IsObligation n.props count) m h; truth = m.truth }
 
 -- a body says one thing of two assignments that agree
-pub body_same : (s : Diagrams) (count : ℕ) (f : Id) → IsBody s count f → (a b : Assignment) → ((v : ℕ) → v < s.props + count → a v ≡ b v) → test s f a ≡ test s f b
+pub body_same : (s : Diagrams) (count : ℕ) (f : Id) → IsBody s count f → (a b : Assignment) → ((v : ℕ) → v < s.props + count → a v ≡ b v) → is_one s f a ≡ is_one s f b
 body_same s count f k a b same = ap (λ x. x == 1) (k.over a b same)
 
 -- a claim says one thing of two assignments that agree
-pub claim_same : (s : Diagrams) (count : ℕ) (f : Id) → IsClaim s count f → (a b : Assignment) → ((v : ℕ) → IsObligation s.props count v → a v ≡ b v) → test s f a ≡ test s f b
+pub claim_same : (s : Diagrams) (count : ℕ) (f : Id) → IsClaim s count f → (a b : Assignment) → ((v : ℕ) → IsObligation s.props count v → a v ≡ b v) → is_one s f a ≡ is_one s f b
 claim_same s count f k a b same = ap (λ x. x == 1) (k.over a b same)
 
 -- a body has the terminals 0 and 1
@@ -164,16 +164,16 @@ agree-false false = refl
 
 -- the opposite
 pub one_opposite : {E : Type 0} (r : Result Id E) (s m n : Diagrams) (f none : Id) → Keeps s m → IsLive s f → IsOneWhere m none (λ _. false)
-    → IfOk r (λ id. IsOneWhere n id (λ a. agree (test m f a) (test m none a))) → IfOk r (λ id. IsOneWhere n id (λ a. not (test s f a)))
-one_opposite r s m n f none k l z ok = IfOk-weaker r (λ id. IsOneWhere n id (λ a. agree (test m f a) (test m none a))) (λ id. IsOneWhere n id (λ a. not (test s f a)))
-    (λ id o. one_same n id (λ a. agree (test m f a) (test m none a)) (λ a. not (test s f a)) o
-    (λ a. rw (test_lasts s m k f l a, z.value a) (agree-false (test s f a)))) ok
+    → IfOk r (λ id. IsOneWhere n id (λ a. agree (is_one m f a) (is_one m none a))) → IfOk r (λ id. IsOneWhere n id (λ a. not (is_one s f a)))
+one_opposite r s m n f none k l z ok = IfOk-weaker r (λ id. IsOneWhere n id (λ a. agree (is_one m f a) (is_one m none a))) (λ id. IsOneWhere n id (λ a. not (is_one s f a)))
+    (λ id o. one_same n id (λ a. agree (is_one m f a) (is_one m none a)) (λ a. not (is_one s f a)) o
+    (λ a. rw (test_lasts s m k f l a, z.value a) (agree-false (is_one s f a)))) ok
 
 -- an operation on two diagrams, the first of which was made in an earlier store
 pub one_of_two : {E : Type 0} (r : Result Id E) (s m n : Diagrams) (f g : Id) (F G H : Assignment → Bool) (op : Bool → Bool → Bool) → Keeps s m → IsOneWhere s f F → IsOneWhere m g G
-    → ((a : Assignment) → op (F a) (G a) ≡ H a) → IfOk r (λ id. IsOneWhere n id (λ a. op (test m f a) (test m g a))) → IfOk r (λ id. IsOneWhere n id H)
-one_of_two r s m n f g F G H op k p q e ok = IfOk-weaker r (λ id. IsOneWhere n id (λ a. op (test m f a) (test m g a))) (λ id. IsOneWhere n id H)
-    (λ id o. one_same n id (λ a. op (test m f a) (test m g a)) H o (λ a. rw (test_lasts s m k f p.live a, p.value a, q.value a) (e a))) ok
+    → ((a : Assignment) → op (F a) (G a) ≡ H a) → IfOk r (λ id. IsOneWhere n id (λ a. op (is_one m f a) (is_one m g a))) → IfOk r (λ id. IsOneWhere n id H)
+one_of_two r s m n f g F G H op k p q e ok = IfOk-weaker r (λ id. IsOneWhere n id (λ a. op (is_one m f a) (is_one m g a))) (λ id. IsOneWhere n id H)
+    (λ id o. one_same n id (λ a. op (is_one m f a) (is_one m g a)) H o (λ a. rw (test_lasts s m k f p.live a, p.value a, q.value a) (e a))) ok
 
 -- in a later store its terminals are 0 and 1
 pub one_truth_later : (s m : Diagrams) (f : Id) (F : Assignment → Bool) → Keeps s m → IsOneWhere s f F → IsTruth m f

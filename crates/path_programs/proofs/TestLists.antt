@@ -8,7 +8,7 @@ use Rattle.diagrams.specs.Live.{Keeps}
 use Rattle.automata.specs.declared.meant.Meant.{Meant}
 use Rattle.automata.specs.Table.{IsMeant}
 use Rattle.automata.proofs.Lasts.{fits_lasts, meant_lasts}
-use Rattle.path_programs.specs.Tests.{test_forms, test_count, IsTestAt, HasTests}
+use Rattle.path_programs.specs.PathTests.{test_forms, test_count, IsTestAt, HasTests}
 
 -- they stay those as a store grows
 pub tests_last : (s n : Diagrams) → Keeps s n → (tests : List Meant) (count : ℕ) (x : Program) → HasTests s tests count x → HasTests n tests count x

@@ -1,4 +1,4 @@
-pub mod Tests
+pub mod PathTests
 pub mod Made
 pub mod Growth
 pub mod Lead

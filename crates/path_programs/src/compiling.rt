@@ -8,7 +8,7 @@ ghost use Rattle.diagrams.specs.Live.{Keeps};
 ghost use Rattle.automata.specs.Table.{IsMeant};
 ghost use Rattle.obligations.specs.Value.{cell, FitsCells};
 ghost use Rattle.obligations.specs.Followed.{GoesOn};
-ghost use Rattle.path_programs.specs.Tests.{test_forms};
+ghost use Rattle.path_programs.specs.PathTests.{test_forms};
 
 use crate::made::{both, either, literal};
 use crate::walk::walk;

@@ -3,7 +3,7 @@ ghost use Rattle.std.specs.Prelude.{IfOk};
 ghost use Rattle.forms.specs.Proper.{IsPropositional};
 ghost use Rattle.forms.specs.Tree.{tree};
 ghost use Rattle.diagrams.specs.Live.{Keeps};
-ghost use Rattle.path_programs.specs.Made.{IsOneWhere, says};
+ghost use Rattle.path_programs.specs.Made.{IsOneWhere, truth_of};
 
 use crate::made::{agreeing, always, both, either, never, opposite, variable};
 use bes_io::Memory;
@@ -14,7 +14,7 @@ use forms::Form;
 pub(crate) fn condition(store: &mut Store, form: &Form) -> Result<Id, Memory>
     requires { IsPropositional (tree form.now) }
     ensures keeps { Keeps store.old store.new }
-    ensures id { IfOk result (λ id. IsOneWhere store.new id (says (tree form.now))) }
+    ensures id { IfOk result (λ id. IsOneWhere store.new id (truth_of (tree form.now))) }
 {
     match form {
         Form::True => always(store),

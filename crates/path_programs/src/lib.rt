@@ -10,8 +10,6 @@ mod condition;
 mod lead;
 mod made;
 mod rest;
-#[cfg(test)]
-mod tests;
 mod walk;
 
 pub use compiling::compile;

@@ -2,7 +2,8 @@
 ghost use Rattle.std.specs.Prelude.{◌≡◌, ◌≤◌, ◌+◌, ◌^◌, ◌&&◌, ◌||◌, true, false, not, length, IfOk};
 ghost use Rattle.forms.specs.Operators.{agree};
 ghost use Rattle.diagrams.specs.Live.{Keeps, IsTruth};
-ghost use Rattle.path_programs.specs.Made.{test, IsOneWhere};
+ghost use Rattle.diagrams.specs.Eval.{is_one};
+ghost use Rattle.path_programs.specs.Made.{IsOneWhere};
 
 use bes_io::Memory;
 use diagrams::{Id, Op, Store};
@@ -12,7 +13,7 @@ pub(crate) fn both(store: &mut Store, f: Id, g: Id) -> Result<Id, Memory>
     requires f { IsTruth store.old f }
     requires g { IsTruth store.old g }
     ensures keeps { Keeps store.old store.new }
-    ensures id { IfOk result (λ id. IsOneWhere store.new id (λ a. test store.old f a && test store.old g a)) }
+    ensures id { IfOk result (λ id. IsOneWhere store.new id (λ a. is_one store.old f a && is_one store.old g a)) }
 {
     store.combine(Op::And, f, g)
 }
@@ -22,7 +23,7 @@ pub(crate) fn either(store: &mut Store, f: Id, g: Id) -> Result<Id, Memory>
     requires f { IsTruth store.old f }
     requires g { IsTruth store.old g }
     ensures keeps { Keeps store.old store.new }
-    ensures id { IfOk result (λ id. IsOneWhere store.new id (λ a. test store.old f a || test store.old g a)) }
+    ensures id { IfOk result (λ id. IsOneWhere store.new id (λ a. is_one store.old f a || is_one store.old g a)) }
 {
     store.combine(Op::Or, f, g)
 }
@@ -32,7 +33,7 @@ pub(crate) fn agreeing(store: &mut Store, f: Id, g: Id) -> Result<Id, Memory>
     requires f { IsTruth store.old f }
     requires g { IsTruth store.old g }
     ensures keeps { Keeps store.old store.new }
-    ensures id { IfOk result (λ id. IsOneWhere store.new id (λ a. agree (test store.old f a) (test store.old g a))) }
+    ensures id { IfOk result (λ id. IsOneWhere store.new id (λ a. agree (is_one store.old f a) (is_one store.old g a))) }
 {
     store.combine(Op::Iff, f, g)
 }
@@ -57,7 +58,7 @@ pub(crate) fn always(store: &mut Store) -> Result<Id, Memory>
 pub(crate) fn opposite(store: &mut Store, f: Id) -> Result<Id, Memory>
     requires { IsTruth store.old f }
     ensures keeps { Keeps store.old store.new }
-    ensures id { IfOk result (λ id. IsOneWhere store.new id (λ a. not (test store.old f a))) }
+    ensures id { IfOk result (λ id. IsOneWhere store.new id (λ a. not (is_one store.old f a))) }
 {
     let zero = never(store)?;
     agreeing(store, f, zero)

@@ -4,7 +4,8 @@ ghost use Rattle.diagrams.specs.Tree.{Assignment};
 ghost use Rattle.diagrams.specs.Live.{Keeps};
 ghost use Rattle.obligations.specs.Table.{ends_of};
 ghost use Rattle.obligations.specs.Value.{IsClaim, FitsCells};
-ghost use Rattle.path_programs.specs.Made.{test, IsOneWhere};
+ghost use Rattle.diagrams.specs.Eval.{is_one};
+ghost use Rattle.path_programs.specs.Made.{IsOneWhere};
 ghost use Rattle.path_programs.specs.Growth.{HasGrown};
 ghost use Rattle.path_programs.specs.Lead.{AreBodies, IsRest};
 
@@ -19,7 +20,7 @@ use obligations::Cells;
 fn rest_further(store: &mut Store, cells: &mut Cells, lead: Lead, later: Id) -> Result<Id, Memory>
     requires fits { FitsCells store.old cells.old }
     requires bodies { AreBodies store.old (length cells.old) lead }
-    requires stays { (a : Assignment) → test store.old lead.stays a ≡ false }
+    requires stays { (a : Assignment) → is_one store.old lead.stays a ≡ false }
     requires ends { lead.ends ≡ false }
     ensures grown { HasGrown store.old cells.old store.new cells.new }
     ensures claim { IfOk result (IsClaim store.new (length cells.new)) }
@@ -78,7 +79,7 @@ pub(crate) fn again(store: &mut Store, cells: &mut Cells, later: Id) -> Result<I
     ensures one { OnOk result (length cells.new ≡ length cells.old + 1) }
     ensures end { OnOk result (ends_of cells.new (length cells.old) ≡ false) }
     ensures claim { IfOk result (IsClaim store.new (length cells.new)) }
-    ensures again { IfOk result (λ id. IsOneWhere store.new id (λ a. a (store.new.props + length cells.old) || test store.old later a)) }
+    ensures again { IfOk result (λ id. IsOneWhere store.new id (λ a. a (store.new.props + length cells.old) || is_one store.old later a)) }
 {
     let turn = literal(store, cells.len())?;
     let next = either(store, turn, later)?;

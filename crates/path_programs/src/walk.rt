@@ -6,7 +6,7 @@ ghost use Rattle.diagrams.specs.Live.{Keeps, IsTruth};
 ghost use Rattle.automata.specs.Table.{size_of, Fits, IsMeant};
 ghost use Rattle.obligations.specs.declared.cells.Obligation.{Obligation};
 ghost use Rattle.obligations.specs.Value.{IsClaim, FitsCells};
-ghost use Rattle.path_programs.specs.Tests.{test_count, HasTests};
+ghost use Rattle.path_programs.specs.PathTests.{test_count, HasTests};
 ghost use Rattle.path_programs.specs.Growth.{HasGrown};
 ghost use Rattle.path_programs.specs.Lead.{AreBodies, IsLead};
 
@@ -51,7 +51,7 @@ fn test(
     requires automaton { Fits store.old automaton.now }
     ensures grown { HasGrown store.old cells.old store.new cells.new }
     ensures bodies { IfOk result (AreBodies store.new (length cells.new)) }
-    ensures lead { IfOk result (λ l. (f : Formula) (later : Id) → (automaton.now.first < size_of automaton.now → IsMeant store.old automaton.now f) → IsLead store.new (length cells.old) cells.new (Test f) later l) }
+    ensures lead { IfOk result (λ l. (f : Formula) (later : Id) → IsProper store.old.props f → (automaton.now.first < size_of automaton.now → IsMeant store.old automaton.now f) → IsLead store.new (length cells.old) cells.new (Test f) later l) }
 {
     let further = never(store)?;
     let wider = find_inclusions(alloc, store, automaton)?;

@@ -1,4 +1,4 @@
-//! What a job reads beside its formula: the events of a trace, one a line.
+//! The events of a trace, one a line.
 //!
 //! `specs/Event.antt` says which letter a line gives, and where it is refused first. Names and
 //! the spelling of words are those of `form_reader`.

@@ -6,7 +6,7 @@ use Rattle.std.proofs.Math.Seq.{drop-cons}
 use Rattle.std.proofs.Math.ListN.{set}
 use Rattle.trace_meaning.specs.declared.node.Lead.{Lead}
 use Rattle.trace_meaning.specs.State.{PathState}
-use Rattle.trace_meaning.specs.Star.{lead, followed, first_or, turns_ahead, turns_followed}
+use Rattle.trace_meaning.specs.Star.{lead, followed, first_or, turns_further, turns_followed}
 use Rattle.trace_meaning.specs.declared.operator.Unary.{Unary}
 use Rattle.trace_meaning.specs.declared.operator.Binary.{Binary}
 use Rattle.trace_meaning.specs.Operator.{unary_now, unary_handed_on, binary_now}
@@ -106,36 +106,36 @@ pub ruleset lengths = (length-column, length-changed)
 -- the step of a star's loop from n to i, the places below n still saying whether the next position is good
 pub turns-last : (b : Bool) (xs later : List Bool) (p : PathState) (n i : ℕ) (d : Bool) → i + 1 ≡ n → n ≤ length xs → length xs ≡ length later
     → take n xs ≡ take n later
-    → (turns_ahead b (drop i later) p ≡ (lead (first_or b (turns_ahead b (drop n later) p) || get_or xs i d) (turns_followed b (drop n later) p)).ahead ∷ turns_ahead b (drop n later) p)
-    × (turns_followed b (drop i later) p ≡ followed (first_or b (turns_ahead b (drop n later) p) || get_or xs i d) (turns_followed b (drop n later) p))
+    → (turns_further b (drop i later) p ≡ (lead (first_or b (turns_further b (drop n later) p) || get_or xs i d) (turns_followed b (drop n later) p)).further ∷ turns_further b (drop n later) p)
+    × (turns_followed b (drop i later) p ≡ followed (first_or b (turns_further b (drop n later) p) || get_or xs i d) (turns_followed b (drop n later) p))
 turns-last b xs later p n i d s h l e =
     let m : suc i ≡ n = omega arith in
     let below : i < n = omega arith in
     let o : i < length later = omega arith in
     let same : get_or later i d ≡ get_or xs i d = sym (get_or-take n later i d below) ∙ ap (λ t. get_or t i d) (sym e) ∙ get_or-take n xs i d below in
     let split : drop i later ≡ get_or xs i d ∷ drop n later = drop-cons later i d o ∙ rw (same, m) refl in (
-      ap (λ t. turns_ahead b t p) split,
+      ap (λ t. turns_further b t p) split,
       ap (λ t. turns_followed b t p) split,
     )
 
 -- the same step, once the path was followed
 pub turns-more : (b next good : Bool) (xs later : List Bool) (p s t : PathState) (n i : ℕ) (d : Bool) (r : Lead)
     → i + 1 ≡ n → n ≤ length xs → length xs ≡ length later → take n xs ≡ take n later
-    → drop n xs ≡ turns_ahead b (drop n later) p → next ≡ first_or b (turns_ahead b (drop n later) p) → s ≡ turns_followed b (drop n later) p
+    → drop n xs ≡ turns_further b (drop n later) p → next ≡ first_or b (turns_further b (drop n later) p) → s ≡ turns_followed b (drop n later) p
     → good ≡ (next || get_or xs i d) → r ≡ lead good s → t ≡ followed good s
-    → (drop i (set xs i r.ahead) ≡ turns_ahead b (drop i later) p)
-    × (r.ahead ≡ first_or b (turns_ahead b (drop i later) p))
+    → (drop i (set xs i r.further) ≡ turns_further b (drop i later) p)
+    × (r.further ≡ first_or b (turns_further b (drop i later) p))
     × (t ≡ turns_followed b (drop i later) p)
 turns-more b next good xs later p s t n i d r steps h l left done nx fs g leads follows =
     let q = turns-last b xs later p n i d steps h l left in
     let o : i < length xs = omega arith in
-    let e : good ≡ (first_or b (turns_ahead b (drop n later) p) || get_or xs i d) = g ∙ ap (λ x. x || get_or xs i d) nx in
-    let ahead : r.ahead ≡ (lead (first_or b (turns_ahead b (drop n later) p) || get_or xs i d) (turns_followed b (drop n later) p)).ahead =
-    ap (λ x. x.ahead) leads ∙ ap (λ x. (lead x s).ahead) e
-    ∙ ap (λ x. (lead (first_or b (turns_ahead b (drop n later) p) || get_or xs i d) x).ahead) fs in
-    let rest : drop (i + 1) xs ≡ turns_ahead b (drop n later) p = ap (λ m. drop m xs) steps ∙ done in (
-      drop-set xs i r.ahead o ∙ rw (ahead, rest) (sym q.0),
-      ahead ∙ ap (first_or b) (sym q.0),
+    let e : good ≡ (first_or b (turns_further b (drop n later) p) || get_or xs i d) = g ∙ ap (λ x. x || get_or xs i d) nx in
+    let further : r.further ≡ (lead (first_or b (turns_further b (drop n later) p) || get_or xs i d) (turns_followed b (drop n later) p)).further =
+    ap (λ x. x.further) leads ∙ ap (λ x. (lead x s).further) e
+    ∙ ap (λ x. (lead (first_or b (turns_further b (drop n later) p) || get_or xs i d) x).further) fs in
+    let rest : drop (i + 1) xs ≡ turns_further b (drop n later) p = ap (λ m. drop m xs) steps ∙ done in (
+      drop-set xs i r.further o ∙ rw (further, rest) (sym q.0),
+      further ∙ ap (first_or b) (sym q.0),
       follows ∙ rw (e, fs) (sym q.1),
     )
 

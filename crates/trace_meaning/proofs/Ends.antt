@@ -3,14 +3,14 @@ use Rattle.std.proofs.Common.{◌≡◌, [], refl, false}
 use Rattle.std.specs.Prelude.{◌&&◌}
 use Rattle.std.proofs.lemmas.Bool.{and_right}
 use Rattle.forms.specs.Word.{Claim}
-use Rattle.forms.specs.Paths.{Link, reaches, ahead}
+use Rattle.forms.specs.Paths.{WordRelation, reaches, reaches_further}
 
-pub reaches-end : (q : Link) (k : Claim) → reaches q k [] ≡ (q [] [] && k [])
+pub reaches-end : (q : WordRelation) (k : Claim) → reaches q k [] ≡ (q [] [] && k [])
 unfolding reaches
 reaches-end q k = refl
 
-pub ahead-end : (q : Link) (k : Claim) → ahead q k [] ≡ false
-unfolding ahead reaches
-ahead-end q k = and_right (q [] []) false refl
+pub reaches_further-end : (q : WordRelation) (k : Claim) → reaches_further q k [] ≡ false
+unfolding reaches_further reaches
+reaches_further-end q k = and_right (q [] []) false refl
 
-pub ruleset ends = (reaches-end, ahead-end)
+pub ruleset ends = (reaches-end, reaches_further-end)

@@ -7,33 +7,33 @@ use Rattle.std.proofs.Math.Seq.{drop-length}
 use Rattle.std.proofs.Math.Nat.{mod-eq_of_lt}
 use Rattle.forms.specs.Word.{Word, Claim, is_empty}
 use Rattle.forms.specs.Operators.{atom}
-use Rattle.forms.specs.Paths.{Link, reaches, ahead, one_step, star}
+use Rattle.forms.specs.Paths.{WordRelation, reaches, reaches_further, one_step, star}
 use Rattle.forms.specs.Satisfaction.{sat, goes}
 use Rattle.forms.specs.Tree.{Formula, Program, True, False, Atom, Not, And, Or, Implies, Iff, Next, WeakNext, Until, Release, Eventually, Always, Diamond, BoxAll, Step, Test, Choice, Seq, Star}
 use Rattle.forms.proofs.Leads.{IsInward, IsInward-goes}
-use Rattle.forms.proofs.Ahead.{reaches-split, ahead-step, ahead-test, ahead-choice, ahead-seq, ahead-star, stays-step, stays-test, stays-seq, stays-star, reaches-star_split, not-reaches}
+use Rattle.forms.proofs.Further.{reaches-split, reaches_further-step, reaches_further-test, reaches_further-choice, reaches_further-seq, reaches_further-star, stays-step, stays-test, stays-seq, stays-star, reaches-star_split, not-reaches}
 use Rattle.trace_meaning.specs.declared.operator.Unary.TheVariants as unary
 use Rattle.trace_meaning.specs.declared.operator.Binary.TheVariants as binary
 use Rattle.trace_meaning.specs.declared.node.Lead.{Lead}
 use Rattle.trace_meaning.specs.State as state
 use Rattle.trace_meaning.specs.State.{State, PathState}
 use Rattle.trace_meaning.specs.Column.{bits_of}
-use Rattle.trace_meaning.specs.Star.{lead, followed, first_or, turns_ahead, turns_followed, in_turn}
+use Rattle.trace_meaning.specs.Star.{lead, followed, first_or, turns_further, turns_followed, in_turn}
 use Rattle.trace_meaning.specs.Leads.{both, one_of, through, rest_of, first_lead}
-use Rattle.trace_meaning.specs.Block.{values, moved, aheads, stays, path_moved, marked}
+use Rattle.trace_meaning.specs.Block.{values, moved, further_column, stays, path_moved, marked}
 use Rattle.trace_meaning.specs.Kept.{column_of, next_column_of, kept, path_kept}
 use Rattle.trace_meaning.proofs.ColumnsOf.{column_of-agree, next_column_of-agree, column_of-constant, both-column_of, one_of-column_of, both-next_column_of, one_of-next_column_of, first_or-column_of, handed-column_of, changed-column_of, first-column_of, column-column_of, handed-next, changed-next, last-column_of, without_last-column_of}
 
 -- where the path leads from the word
-abbrev leading : Link → Claim → Word → Lead
-leading q k u = record { ahead = ahead q k u; stays = q u u }
+abbrev leading : WordRelation → Claim → Word → Lead
+leading q k u = record { further = reaches_further q k u; stays = q u u }
 
 -- where a star leads, from where its path does
 abbrev first_turn : Lead → Lead
-first_turn l = record { ahead = l.ahead; stays = true }
+first_turn l = record { further = l.further; stays = true }
 
 abbrev lead_of : Bool → Bool → Lead
-lead_of a b = record { ahead = a; stays = b }
+lead_of a b = record { further = a; stays = b }
 
 leads-alike : (a b c d : Bool) → a ≡ c → b ≡ d → lead_of a b ≡ lead_of c d
 leads-alike a b c d e f = cc
@@ -42,19 +42,19 @@ module _ (p : ℕ) where
   mutual
     lead-kept : (q : Program) (k : Claim) (b : Word) (a : ℕ) (u : Word) → lead (k u) (path_kept p q k (b ++ a ∷ []) u) ≡ leading (goes p q) k (a ∷ u)
     lead-kept (Step f) k b a u =
-        leads-alike _ _ _ _ (ap (λ x. x && k u) (last-column_of (sat p f) b a u) ∙ sym (ahead-step (sat p f) k a u)) (sym (stays-step (sat p f) (a ∷ u)))
+        leads-alike _ _ _ _ (ap (λ x. x && k u) (last-column_of (sat p f) b a u) ∙ sym (reaches_further-step (sat p f) k a u)) (sym (stays-step (sat p f) (a ∷ u)))
     lead-kept (Test f) k b a u =
-        leads-alike _ _ _ _ (sym (ahead-test (sat p f) k (a ∷ u))) (last-column_of (sat p f) b a u ∙ sym (stays-test (sat p f) (a ∷ u)))
+        leads-alike _ _ _ _ (sym (reaches_further-test (sat p f) k (a ∷ u))) (last-column_of (sat p f) b a u ∙ sym (stays-test (sat p f) (a ∷ u)))
     lead-kept (Choice q r) k b a u =
-        rw (lead-kept q k b a u, lead-kept r k b a u) (leads-alike _ _ _ _ (sym (ahead-choice (goes p q) (goes p r) k (a ∷ u))) refl)
+        rw (lead-kept q k b a u, lead-kept r k b a u) (leads-alike _ _ _ _ (sym (reaches_further-choice (goes p q) (goes p r) k (a ∷ u))) refl)
     lead-kept (Seq q r) k b a u =
         ap (λ x. in_turn (lead x (path_kept p q (reaches (goes p r) k) (b ++ a ∷ []) u)) (lead (k u) (path_kept p r k (b ++ a ∷ []) u))) (sym (reaches-split (goes p r) k u))
         ∙ rw (lead-kept q (reaches (goes p r) k) b a u, lead-kept r k b a u)
-        (leads-alike _ _ _ _ (sym (ahead-seq (goes p q) (goes p r) k (IsInward-goes p r) (a ∷ u))) (sym (stays-seq (goes p q) (goes p r) (IsInward-goes p r) (a ∷ u))))
+        (leads-alike _ _ _ _ (sym (reaches_further-seq (goes p q) (goes p r) k (IsInward-goes p r) (a ∷ u))) (sym (stays-seq (goes p q) (goes p r) (IsInward-goes p r) (a ∷ u))))
     lead-kept (Star q) k b a u =
         ap (λ x. first_turn (lead x (path_kept p q (reaches (star (goes p q)) k) (b ++ a ∷ []) u))) (sym (reaches-star_split (goes p q) k u))
         ∙ rw (lead-kept q (reaches (star (goes p q)) k) b a u)
-        (leads-alike _ _ _ _ (sym (ahead-star (goes p q) k (a ∷ u))) (sym (stays-star (goes p q) (a ∷ u))))
+        (leads-alike _ _ _ _ (sym (reaches_further-star (goes p q) k (a ∷ u))) (sym (stays-star (goes p q) (a ∷ u))))
 
   followed-kept : (q : Program) (k : Claim) (b : Word) (a : ℕ) (u : Word) → followed (k u) (path_kept p q k (b ++ a ∷ []) u) ≡ path_kept p q k b (a ∷ u)
   followed-kept (Step f) k b a u = rw (append_assoc b (a ∷ []) u, without_last-column_of (sat p f) b a u) refl
@@ -65,33 +65,33 @@ module _ (p : ℕ) where
       (sym (reaches-split (goes p r) k u))
       ∙ rw (followed-kept q (reaches (goes p r) k) b a u, followed-kept r k b a u, lead-kept r k b a u) refl
   followed-kept (Star q) k b a u =
-      ap (λ x. state.Star (followed x (path_kept p q (reaches (star (goes p q)) k) (b ++ a ∷ []) u)) ((lead x (path_kept p q (reaches (star (goes p q)) k) (b ++ a ∷ []) u)).ahead))
+      ap (λ x. state.Star (followed x (path_kept p q (reaches (star (goes p q)) k) (b ++ a ∷ []) u)) ((lead x (path_kept p q (reaches (star (goes p q)) k) (b ++ a ∷ []) u)).further))
       (sym (reaches-star_split (goes p q) k u))
       ∙ rw (followed-kept q (reaches (star (goes p q)) k) b a u, lead-kept q (reaches (star (goes p q)) k) b a u)
-      (ap (λ x. state.Star (path_kept p q (reaches (star (goes p q)) k) b (a ∷ u)) x) (sym (ahead-star (goes p q) k (a ∷ u))))
+      (ap (λ x. state.Star (path_kept p q (reaches (star (goes p q)) k) b (a ∷ u)) x) (sym (reaches_further-star (goes p q) k (a ∷ u))))
 
   -- what turns of a star's path find and leave over the block w, b standing before it
   turns-kept : (q : Program) (k : Claim) (w b u : Word) (s : PathState) → s ≡ path_kept p q (reaches (star (goes p q)) k) (b ++ w) u
-      → (turns_ahead (ahead (star (goes p q)) k u) (next_column_of k w u) s ≡ column_of (ahead (star (goes p q)) k) w u)
-      × (turns_followed (ahead (star (goes p q)) k u) (next_column_of k w u) s ≡ path_kept p q (reaches (star (goes p q)) k) b (w ++ u))
+      → (turns_further (reaches_further (star (goes p q)) k u) (next_column_of k w u) s ≡ column_of (reaches_further (star (goes p q)) k) w u)
+      × (turns_followed (reaches_further (star (goes p q)) k u) (next_column_of k w u) s ≡ path_kept p q (reaches (star (goes p q)) k) b (w ++ u))
   turns-kept q k [] b u s e = (refl, e ∙ ap (λ t. path_kept p q (reaches (star (goes p q)) k) t u) (append-nil b))
   turns-kept q k (a ∷ w) b u s e =
       let t = turns-kept q k w (b ++ a ∷ []) u s (e ∙ ap (λ t. path_kept p q (reaches (star (goes p q)) k) t u) (sym (append_assoc b (a ∷ []) w))) in
-      let good : (first_or (ahead (star (goes p q)) k u) (turns_ahead (ahead (star (goes p q)) k u) (next_column_of k w u) s) || k (w ++ u)) ≡ reaches (star (goes p q)) k (w ++ u) =
-      ap (λ x. first_or (ahead (star (goes p q)) k u) x || k (w ++ u)) t.0
-      ∙ ap (λ x. x || k (w ++ u)) (first_or-column_of (ahead (star (goes p q)) k) w u)
+      let good : (first_or (reaches_further (star (goes p q)) k u) (turns_further (reaches_further (star (goes p q)) k u) (next_column_of k w u) s) || k (w ++ u)) ≡ reaches (star (goes p q)) k (w ++ u) =
+      ap (λ x. first_or (reaches_further (star (goes p q)) k u) x || k (w ++ u)) t.0
+      ∙ ap (λ x. x || k (w ++ u)) (first_or-column_of (reaches_further (star (goes p q)) k) w u)
       ∙ sym (reaches-star_split (goes p q) k (w ++ u)) in
-      let leads : (lead (first_or (ahead (star (goes p q)) k u) (turns_ahead (ahead (star (goes p q)) k u) (next_column_of k w u) s) || k (w ++ u)) (turns_followed (ahead (star (goes p q)) k u) (next_column_of k w u) s)).ahead
-      ≡ ahead (star (goes p q)) k (a ∷ (w ++ u)) =
-      rw (good, t.1) (ap (λ l. l.ahead) (lead-kept q (reaches (star (goes p q)) k) b a (w ++ u)) ∙ sym (ahead-star (goes p q) k (a ∷ (w ++ u)))) in (
+      let leads : (lead (first_or (reaches_further (star (goes p q)) k u) (turns_further (reaches_further (star (goes p q)) k u) (next_column_of k w u) s) || k (w ++ u)) (turns_followed (reaches_further (star (goes p q)) k u) (next_column_of k w u) s)).further
+      ≡ reaches_further (star (goes p q)) k (a ∷ (w ++ u)) =
+      rw (good, t.1) (ap (λ l. l.further) (lead-kept q (reaches (star (goes p q)) k) b a (w ++ u)) ∙ sym (reaches_further-star (goes p q) k (a ∷ (w ++ u)))) in (
         rw (leads, t.0) refl,
         rw (good, t.1) (followed-kept q (reaches (star (goes p q)) k) b a (w ++ u)),
       )
 
--- a step leads ahead from a letter where its formula holds and the next position is good
-both-step : (f k : Claim) (w u : Word) → both (column_of f w u) (next_column_of k w u) ≡ column_of (ahead (one_step f) k) w u
+-- a step leads further from a letter where its formula holds and the next position is good
+both-step : (f k : Claim) (w u : Word) → both (column_of f w u) (next_column_of k w u) ≡ column_of (reaches_further (one_step f) k) w u
 both-step f k [] u = refl
-both-step f k (a ∷ w) u = rw (both-step f k w u, ahead-step f k a (w ++ u)) refl
+both-step f k (a ∷ w) u = rw (both-step f k w u, reaches_further-step f k a (w ++ u)) refl
 
 and_swapped : (x y : Bool) → (x && y) ≡ (y && x)
 and_swapped true true = refl
@@ -106,33 +106,33 @@ or_swapped false true = refl
 or_swapped false false = refl
 
 -- where two paths lead ahead from a block, the one after the other
-seq-column_of : (q r : Link) (k : Claim) → IsInward r → (w u : Word)
-    → one_of (column_of (ahead q (reaches r k)) w u) (both (column_of (ahead r k) w u) (column_of (λ v. q v v) w u))
-    ≡ column_of (ahead (λ m v. reaches q (λ n. r n v) m) k) w u
+seq-column_of : (q r : WordRelation) (k : Claim) → IsInward r → (w u : Word)
+    → one_of (column_of (reaches_further q (reaches r k)) w u) (both (column_of (reaches_further r k) w u) (column_of (λ v. q v v) w u))
+    ≡ column_of (reaches_further (λ m v. reaches q (λ n. r n v) m) k) w u
 seq-column_of q r k inward w u =
-    ap (one_of (column_of (ahead q (reaches r k)) w u)) (both-column_of (ahead r k) (λ v. q v v) w u)
-    ∙ one_of-column_of (ahead q (reaches r k)) (λ v. ahead r k v && q v v) w u
-    ∙ column_of-agree _ _ (λ v. ap (λ x. ahead q (reaches r k) v || x) (and_swapped (ahead r k v) (q v v)) ∙ sym (ahead-seq q r k inward v)) w u
+    ap (one_of (column_of (reaches_further q (reaches r k)) w u)) (both-column_of (reaches_further r k) (λ v. q v v) w u)
+    ∙ one_of-column_of (reaches_further q (reaches r k)) (λ v. reaches_further r k v && q v v) w u
+    ∙ column_of-agree _ _ (λ v. ap (λ x. reaches_further q (reaches r k) v || x) (and_swapped (reaches_further r k v) (q v v)) ∙ sym (reaches_further-seq q r k inward v)) w u
 
 -- whether the second path leads on well from the next position
-rest-column_of : (r : Link) (k : Claim) (w u : Word)
-    → rest_of (record { ahead = ahead r k u; stays = r u u }) (column_of (ahead r k) w u) (column_of (λ v. r v v) w u) (next_column_of k w u)
+rest-column_of : (r : WordRelation) (k : Claim) (w u : Word)
+    → rest_of (record { further = reaches_further r k u; stays = r u u }) (column_of (reaches_further r k) w u) (column_of (λ v. r v v) w u) (next_column_of k w u)
     ≡ next_column_of (reaches r k) w u
 rest-column_of r k w u =
-    rw (changed-next (ahead r k) w u, changed-next (λ v. r v v) w u, both-next_column_of (λ v. r v v) k w u, one_of-next_column_of (λ v. r v v && k v) (ahead r k) w u)
-    (next_column_of-agree _ _ (λ v. or_swapped (r v v && k v) (ahead r k v) ∙ sym (reaches-split r k v)) w u)
+    rw (changed-next (reaches_further r k) w u, changed-next (λ v. r v v) w u, both-next_column_of (λ v. r v v) k w u, one_of-next_column_of (λ v. r v v && k v) (reaches_further r k) w u)
+    (next_column_of-agree _ _ (λ v. or_swapped (r v v && k v) (reaches_further r k v) ∙ sym (reaches-split r k v)) w u)
 
-first_lead-column_of : (r : Link) (k : Claim) (w u : Word)
-    → first_lead (record { ahead = ahead r k u; stays = r u u }) (column_of (ahead r k) w u) (column_of (λ v. r v v) w u) ≡ leading r k (w ++ u)
-first_lead-column_of r k w u = leads-alike _ _ _ _ (handed-next (ahead r k) w u) (handed-next (λ v. r v v) w u)
+first_lead-column_of : (r : WordRelation) (k : Claim) (w u : Word)
+    → first_lead (record { further = reaches_further r k u; stays = r u u }) (column_of (reaches_further r k) w u) (column_of (λ v. r v v) w u) ≡ leading r k (w ++ u)
+first_lead-column_of r k w u = leads-alike _ _ _ _ (handed-next (reaches_further r k) w u) (handed-next (λ v. r v v) w u)
 
 -- whether the path leads to a word with k
-through-column_of : (q : Link) (k : Claim) (w u : Word)
-    → through (column_of (ahead q k) w u) (column_of (λ v. q v v) w u) (column_of k w u) ≡ column_of (reaches q k) w u
+through-column_of : (q : WordRelation) (k : Claim) (w u : Word)
+    → through (column_of (reaches_further q k) w u) (column_of (λ v. q v v) w u) (column_of k w u) ≡ column_of (reaches q k) w u
 through-column_of q k w u =
-    ap (λ x. one_of x (column_of (ahead q k) w u)) (both-column_of k (λ v. q v v) w u)
-    ∙ one_of-column_of (λ v. k v && q v v) (ahead q k) w u
-    ∙ column_of-agree _ _ (λ v. ap (λ x. x || ahead q k v) (and_swapped (k v) (q v v)) ∙ or_swapped (q v v && k v) (ahead q k v) ∙ sym (reaches-split q k v)) w u
+    ap (λ x. one_of x (column_of (reaches_further q k) w u)) (both-column_of k (λ v. q v v) w u)
+    ∙ one_of-column_of (λ v. k v && q v v) (reaches_further q k) w u
+    ∙ column_of-agree _ _ (λ v. ap (λ x. x || reaches_further q k v) (and_swapped (k v) (q v v)) ∙ or_swapped (q v v && k v) (reaches_further q k v) ∙ sym (reaches-split q k v)) w u
 
 module _ (p : ℕ) (h : p ≤ 32) where
   -- every end of the path has f where none lacks it
@@ -164,28 +164,28 @@ module _ (p : ℕ) (h : p ≤ 32) where
     values-kept (Eventually f) w u = rw (values-kept f w u) (changed-column_of unary.Eventually (sat p (Eventually f)) (sat p (Eventually f)) (sat p f) (λ a v. refl) (λ a v. refl) w u)
     values-kept (Always f) w u = rw (values-kept f w u) (changed-column_of unary.Always (sat p (Always f)) (sat p (Always f)) (sat p f) (λ a v. refl) (λ a v. refl) w u)
     values-kept (Diamond r f) w u =
-        rw (values-kept f w u, changed-next (sat p f) w u, aheads-kept r (sat p f) w u, stays-kept r (sat p f) w u)
+        rw (values-kept f w u, changed-next (sat p f) w u, further_column-kept r (sat p f) w u, stays-kept r (sat p f) w u)
         (through-column_of (goes p r) (sat p f) w u)
     values-kept (BoxAll r f) w u =
         rw (
           values-kept f w u,
           changed-column_of unary.Not (sat p (Not f)) (sat p (Not f)) (sat p f) (λ a v. refl) (λ a v. refl) w u,
           changed-next (sat p (Not f)) w u,
-          aheads-kept r (sat p (Not f)) w u,
+          further_column-kept r (sat p (Not f)) w u,
           stays-kept r (sat p (Not f)) w u,
           through-column_of (goes p r) (sat p (Not f)) w u,
         ) (changed-column_of unary.Not (sat p (BoxAll r f)) (sat p (BoxAll r f)) (reaches (goes p r) (sat p (Not f))) (λ a v. box-not r f (a ∷ v)) (λ a v. box-not r f (a ∷ v)) w u)
 
-    pub aheads-kept : (q : Program) (k : Claim) (w u : Word) → aheads w (next_column_of k w u) (path_kept p q k [] u) ≡ column_of (ahead (goes p q) k) w u
-    aheads-kept (Step f) k w u = rw (values-kept f w u) (both-step (sat p f) k w u)
-    aheads-kept (Test f) k w u = column_of-constant false w u ∙ column_of-agree _ _ (λ v. sym (ahead-test (sat p f) k v)) w u
-    aheads-kept (Choice q r) k w u =
-        rw (aheads-kept q k w u, aheads-kept r k w u)
-        (one_of-column_of (ahead (goes p q) k) (ahead (goes p r) k) w u ∙ column_of-agree _ _ (λ v. sym (ahead-choice (goes p q) (goes p r) k v)) w u)
-    aheads-kept (Seq q r) k w u =
-        rw (aheads-kept r k w u, stays-kept r k w u, rest-column_of (goes p r) k w u, aheads-kept q (reaches (goes p r) k) w u, stays-kept q (reaches (goes p r) k) w u)
+    pub further_column-kept : (q : Program) (k : Claim) (w u : Word) → further_column w (next_column_of k w u) (path_kept p q k [] u) ≡ column_of (reaches_further (goes p q) k) w u
+    further_column-kept (Step f) k w u = rw (values-kept f w u) (both-step (sat p f) k w u)
+    further_column-kept (Test f) k w u = column_of-constant false w u ∙ column_of-agree _ _ (λ v. sym (reaches_further-test (sat p f) k v)) w u
+    further_column-kept (Choice q r) k w u =
+        rw (further_column-kept q k w u, further_column-kept r k w u)
+        (one_of-column_of (reaches_further (goes p q) k) (reaches_further (goes p r) k) w u ∙ column_of-agree _ _ (λ v. sym (reaches_further-choice (goes p q) (goes p r) k v)) w u)
+    further_column-kept (Seq q r) k w u =
+        rw (further_column-kept r k w u, stays-kept r k w u, rest-column_of (goes p r) k w u, further_column-kept q (reaches (goes p r) k) w u, stays-kept q (reaches (goes p r) k) w u)
         (seq-column_of (goes p q) (goes p r) k (IsInward-goes p r) w u)
-    aheads-kept (Star q) k w u =
+    further_column-kept (Star q) k w u =
         rw (marked-kept q (reaches (star (goes p q)) k) w u) ((turns-kept p q k w [] u (path_kept p q (reaches (star (goes p q)) k) w u) refl).0)
 
     pub stays-kept : (q : Program) (k : Claim) (w u : Word) → stays w (path_kept p q k [] u) ≡ column_of (λ v. goes p q v v) w u
@@ -230,7 +230,7 @@ module _ (p : ℕ) (h : p ≤ 32) where
           moved-kept f w u,
           handed-column_of unary.Not (sat p (Not f)) (sat p (Not f)) (sat p f) (λ a v. refl) (λ a v. refl) w u,
           handed-next (sat p (Not f)) w u,
-          aheads-kept r (sat p (Not f)) w u,
+          further_column-kept r (sat p (Not f)) w u,
           stays-kept r (sat p (Not f)) w u,
           through-column_of (goes p r) (sat p (Not f)) w u,
           handed-column_of unary.Not (sat p (BoxAll r f)) (sat p (BoxAll r f)) (reaches (goes p r) (sat p (Not f))) (λ a v. box-not r f (a ∷ v)) (λ a v. box-not r f (a ∷ v)) w u,
@@ -241,11 +241,11 @@ module _ (p : ℕ) (h : p ≤ 32) where
     path_moved-kept (Test f) k w u = rw (moved-kept f w u) refl
     path_moved-kept (Choice q r) k w u = rw (path_moved-kept q k w u, path_moved-kept r k w u) refl
     path_moved-kept (Seq q r) k w u =
-        rw (aheads-kept r k w u, stays-kept r k w u, rest-column_of (goes p r) k w u, path_moved-kept q (reaches (goes p r) k) w u, path_moved-kept r k w u, first_lead-column_of (goes p r) k w u) refl
+        rw (further_column-kept r k w u, stays-kept r k w u, rest-column_of (goes p r) k w u, path_moved-kept q (reaches (goes p r) k) w u, path_moved-kept r k w u, first_lead-column_of (goes p r) k w u) refl
     path_moved-kept (Star q) k w u =
         let t = turns-kept p q k w [] u (path_kept p q (reaches (star (goes p q)) k) w u) refl in
         rw (marked-kept q (reaches (star (goes p q)) k) w u, t.0, t.1)
-        (ap (λ x. state.Star (path_kept p q (reaches (star (goes p q)) k) [] (w ++ u)) x) (first_or-column_of (ahead (star (goes p q)) k) w u))
+        (ap (λ x. state.Star (path_kept p q (reaches (star (goes p q)) k) [] (w ++ u)) x) (first_or-column_of (reaches_further (star (goes p q)) k) w u))
 
 -- a block that ends where j letters of the word come after its first
 part-append : (w : Word) (i j : ℕ) → i ≤ j → take (j - i) (drop i w) ++ drop j w ≡ drop i w

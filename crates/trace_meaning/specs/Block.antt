@@ -5,7 +5,7 @@ use Rattle.forms.specs.Word.{Word}
 use Rattle.trace_meaning.specs.declared.operator.Unary.TheVariants as unary
 use Rattle.trace_meaning.specs.Column.{handed, changed, first, column, bits_of}
 use Rattle.trace_meaning.specs.Leads.{both, one_of, through, rest_of, first_lead}
-use Rattle.trace_meaning.specs.Star.{first_or, turns_ahead, turns_followed}
+use Rattle.trace_meaning.specs.Star.{first_or, turns_further, turns_followed}
 use Rattle.trace_meaning.specs.State.{State, PathState, Fixed, Atom, Unary, Binary, Diamond, Step, Test, Choice, Seq, Star}
 
 abbrev mutual
@@ -16,7 +16,7 @@ abbrev mutual
   values w (Unary op f later) = changed op later (values w f)
   values w (Binary op f g later) = column op later (values w f) (values w g)
   values w (Diamond p f later) =
-      through (aheads w (changed unary.Next later (values w f)) p) (stays w p) (values w f)
+      through (further_column w (changed unary.Next later (values w f)) p) (stays w p) (values w f)
 
   -- what is kept before the block
   pub moved : Word → State → State
@@ -27,15 +27,15 @@ abbrev mutual
   moved w (Diamond p f later) =
       Diamond (path_moved w (changed unary.Next later (values w f)) p) (moved w f) (handed unary.Next later (values w f))
 
-  -- whether the path leads ahead to a good position from each letter, `later` saying of each whether
+  -- whether the path leads further to a good position from each letter, `later` saying of each whether
   -- the next position is good
-  pub aheads : Word → List Bool → PathState → List Bool
-  aheads w later (Step f xs) = both (values w f) later
-  aheads w later (Test f xs) = replicate (length w) false
-  aheads w later (Choice p q) = one_of (aheads w later p) (aheads w later q)
-  aheads w later (Seq p q next) =
-      one_of (aheads w (rest_of next (aheads w later q) (stays w q) later) p) (both (aheads w later q) (stays w p))
-  aheads w later (Star p next) = turns_ahead next later (marked w p)
+  pub further_column : Word → List Bool → PathState → List Bool
+  further_column w later (Step f xs) = both (values w f) later
+  further_column w later (Test f xs) = replicate (length w) false
+  further_column w later (Choice p q) = one_of (further_column w later p) (further_column w later q)
+  further_column w later (Seq p q next) =
+      one_of (further_column w (rest_of next (further_column w later q) (stays w q) later) p) (both (further_column w later q) (stays w p))
+  further_column w later (Star p next) = turns_further next later (marked w p)
 
   -- whether the path leads from each letter to itself
   pub stays : Word → PathState → List Bool
@@ -51,10 +51,10 @@ abbrev mutual
   path_moved w later (Test f xs) = Test (moved w f) xs
   path_moved w later (Choice p q) = Choice (path_moved w later p) (path_moved w later q)
   path_moved w later (Seq p q next) =
-      Seq (path_moved w (rest_of next (aheads w later q) (stays w q) later) p) (path_moved w later q)
-      (first_lead next (aheads w later q) (stays w q))
+      Seq (path_moved w (rest_of next (further_column w later q) (stays w q) later) p) (path_moved w later q)
+      (first_lead next (further_column w later q) (stays w q))
   path_moved w later (Star p next) =
-      Star (turns_followed next later (marked w p)) (first_or next (turns_ahead next later (marked w p)))
+      Star (turns_followed next later (marked w p)) (first_or next (turns_further next later (marked w p)))
 
   -- a path within a star, its formulas having read the block and the path itself not yet
   pub marked : Word → PathState → PathState

@@ -1,7 +1,7 @@
 -- What is kept of a formula of p propositions before the word u, all of whose letters were judged.
 use Rattle.std.specs.Prelude.{ℕ, ◌-◌, List, [], ◌∷◌, ◌++◌, Bool, true, false, ◌&&◌, ◌||◌, not}
 use Rattle.forms.specs.Word.{Word, Claim, is_empty}
-use Rattle.forms.specs.Paths.{reaches, ahead, star}
+use Rattle.forms.specs.Paths.{reaches, reaches_further, star}
 use Rattle.forms.specs.Satisfaction.{sat, goes}
 use Rattle.forms.specs.Tree as tree
 use Rattle.forms.specs.Tree.{Formula, Program}
@@ -20,7 +20,7 @@ next_column_of f [] u = []
 next_column_of f (a ∷ b) u = f (b ++ u) ∷ next_column_of f b u
 
 abbrev mutual
-  -- a path has the claim k at the positions that are good ends of it
+  -- what is kept of a formula, u being the word that was read
   pub kept : ℕ → Formula → Word → State
   kept p tree.True u = Fixed true
   kept p tree.False u = Fixed false
@@ -42,13 +42,13 @@ abbrev mutual
       (Diamond (path_kept p r (λ v. not (sat p f v)) [] u) (Unary unary.Not (kept p f u) (not (sat p f u))) (not (sat p f u)))
       (sat p (tree.BoxAll r f) u)
 
-  -- of a path that is to lead to a word with k; its formulas have read the letters b already
+  -- what is kept of a path that is to lead to a word with k; its formulas have read the letters b already
   pub path_kept : ℕ → Program → Claim → Word → Word → PathState
   path_kept p (tree.Step f) k b u = Step (kept p f (b ++ u)) (column_of (λ v. sat p f v) b u)
   path_kept p (tree.Test f) k b u = Test (kept p f (b ++ u)) (column_of (λ v. sat p f v) b u)
   path_kept p (tree.Choice q r) k b u = Choice (path_kept p q k b u) (path_kept p r k b u)
   path_kept p (tree.Seq q r) k b u =
       Seq (path_kept p q (reaches (goes p r) k) b u) (path_kept p r k b u)
-      (record { ahead = ahead (goes p r) k u; stays = goes p r u u })
+      (record { further = reaches_further (goes p r) k u; stays = goes p r u u })
   path_kept p (tree.Star q) k b u =
-      Star (path_kept p q (reaches (star (goes p q)) k) b u) (ahead (star (goes p q)) k u)
+      Star (path_kept p q (reaches (star (goes p q)) k) b u) (reaches_further (star (goes p q)) k u)

@@ -15,14 +15,14 @@ one_of xs ys = column binary.Or false xs ys
 
 -- whether a path leads to a good position, `good` saying which positions are
 abbrev pub through : List Bool → List Bool → List Bool → List Bool
-through ahead stays good = one_of (both good stays) ahead
+through further stays good = one_of (both good stays) further
 
 -- whether the path that leads so from the next position leads to a good one from there
 abbrev pub rest_of : Lead → List Bool → List Bool → List Bool → List Bool
-rest_of next ahead stays later =
-    one_of (both (changed unary.Next next.stays stays) later) (changed unary.Next next.ahead ahead)
+rest_of next further stays later =
+    one_of (both (changed unary.Next next.stays stays) later) (changed unary.Next next.further further)
 
 -- where the path leads from the first position, `next` being where it leads from the one after the block
 abbrev pub first_lead : Lead → List Bool → List Bool → Lead
-first_lead next ahead stays =
-    record { ahead = handed unary.Next next.ahead ahead; stays = handed unary.Next next.stays stays }
+first_lead next further stays =
+    record { further = handed unary.Next next.further further; stays = handed unary.Next next.stays stays }

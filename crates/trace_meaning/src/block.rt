@@ -51,25 +51,25 @@ fn leads_from(
     later: Vec<bool>,
 ) -> Result<Leads, Memory>
     requires { length later.items ≡ length letters.now }
-    ensures ahead { IfOk result (λ made.
-        made.ahead.items ≡ spec.aheads letters.now later.items (path_state track.old)) }
+    ensures further { IfOk result (λ made.
+        made.further.items ≡ spec.further_column letters.now later.items (path_state track.old)) }
     ensures stays { IfOk result (λ made.
         made.stays.items ≡ spec.stays letters.now (path_state track.old)) }
     ensures moved { IfOk result (λ _.
         path_state track.new ≡ spec.path_moved letters.now later.items (path_state track.old)) }
-    ensures whole { IfOk result (λ made. length made.ahead.items ≡ length letters.now) }
+    ensures whole { IfOk result (λ made. length made.further.items ≡ length letters.now) }
 {
     match track {
         Track::Step(f, _) => {
-            let mut ahead = block(alloc, f, letters)?;
-            combine(Binary::And, &mut ahead, &later, false);
+            let mut further = block(alloc, f, letters)?;
+            combine(Binary::And, &mut further, &later, false);
             let stays = constant(alloc, false, letters.len())?;
-            Ok(Leads { ahead, stays })
+            Ok(Leads { further, stays })
         }
         Track::Test(f, _) => {
             let stays = block(alloc, f, letters)?;
-            let ahead = constant(alloc, false, letters.len())?;
-            Ok(Leads { ahead, stays })
+            let further = constant(alloc, false, letters.len())?;
+            Ok(Leads { further, stays })
         }
         Track::Choice(p, q) => {
             let x = leads_from(alloc, p, letters, copy(&later)?)?;
@@ -84,10 +84,10 @@ fn leads_from(
         }
         Track::Star(p, next) => {
             mark(alloc, p, letters)?;
-            let mut ahead = later;
-            *next = take_turns(p, *next, &mut ahead);
+            let mut further = later;
+            *next = take_turns(p, *next, &mut further);
             let stays = constant(alloc, true, letters.len())?;
-            Ok(Leads { ahead, stays })
+            Ok(Leads { further, stays })
         }
     }
 }

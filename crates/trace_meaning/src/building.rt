@@ -1,4 +1,4 @@
-ghost use Rattle.std.specs.Prelude.{◌≡◌, [], ◌&&◌, IfOk};
+ghost use Rattle.std.specs.Prelude.{◌≡◌, [], ◌&&◌, false, IfOk};
 ghost use Rattle.forms.specs.Proper.{IsProper, IsProperProgram};
 ghost use Rattle.forms.specs.Satisfaction.{sat, goes};
 ghost use Rattle.forms.specs.Tree.{program, tree};
@@ -110,6 +110,47 @@ impl Builder {
         }
     }
 
+    fn step(self, f: Built) -> Result<BuiltPath, Memory>
+        ensures track { IfOk result (λ made. path_state made.track ≡ shape.Step (state f.node) []) }
+        ensures stays { IfOk result (λ made. made.stays ≡ false) }
+    {
+        let node = Box::new(self.alloc, f.node)?;
+        let track = Track::Step(node, Vec::new(self.alloc));
+        Ok(BuiltPath {
+            track,
+            stays: false,
+        })
+    }
+
+    fn test(self, f: Built) -> Result<BuiltPath, Memory>
+        ensures track { IfOk result (λ made. path_state made.track ≡ shape.Test (state f.node) []) }
+        ensures stays { IfOk result (λ made. made.stays ≡ f.at_end) }
+    {
+        let node = Box::new(self.alloc, f.node)?;
+        let track = Track::Test(node, Vec::new(self.alloc));
+        Ok(BuiltPath {
+            track,
+            stays: f.at_end,
+        })
+    }
+
+    fn seq(self, p: BuiltPath, q: BuiltPath) -> Result<BuiltPath, Memory>
+        ensures track { IfOk result (λ made.
+            path_state made.track ≡ shape.Seq (path_state p.track) (path_state q.track) (record { further = false; stays = q.stays })) }
+        ensures stays { IfOk result (λ made. made.stays ≡ (p.stays && q.stays)) }
+    {
+        let next = Lead {
+            further: false,
+            stays: q.stays,
+        };
+        let first = Box::new(self.alloc, p.track)?;
+        let track = Track::Seq(first, Box::new(self.alloc, q.track)?, next);
+        Ok(BuiltPath {
+            track,
+            stays: p.stays && q.stays,
+        })
+    }
+
     #[cycle(build)]
     #[tactic(auto, using(crate::proofs::Ends::ends))]
     fn build_path(self, path: &Path) -> Result<BuiltPath, Memory>
@@ -120,22 +161,8 @@ impl Builder {
             made.stays ≡ goes self.props (program path.now) [] []) }
     {
         match path {
-            Path::Step(f) => {
-                let f = self.build(f)?;
-                let node = Box::new(self.alloc, f.node)?;
-                let track = Track::Step(node, Vec::new(self.alloc));
-                Ok(BuiltPath {
-                    track,
-                    stays: false,
-                })
-            }
-            Path::Test(f) => {
-                let f = self.build(f)?;
-                let stays = f.at_end;
-                let node = Box::new(self.alloc, f.node)?;
-                let track = Track::Test(node, Vec::new(self.alloc));
-                Ok(BuiltPath { track, stays })
-            }
+            Path::Step(f) => self.step(self.build(f)?),
+            Path::Test(f) => self.test(self.build(f)?),
             Path::Choice(p, q) => {
                 let p = self.build_path(p)?;
                 let q = self.build_path(q)?;
@@ -144,18 +171,7 @@ impl Builder {
                 let track = Track::Choice(p, Box::new(self.alloc, q.track)?);
                 Ok(BuiltPath { track, stays })
             }
-            Path::Seq(p, q) => {
-                let p = self.build_path(p)?;
-                let q = self.build_path(q)?;
-                let stays = p.stays && q.stays;
-                let next = Lead {
-                    ahead: false,
-                    stays: q.stays,
-                };
-                let p = Box::new(self.alloc, p.track)?;
-                let track = Track::Seq(p, Box::new(self.alloc, q.track)?, next);
-                Ok(BuiltPath { track, stays })
-            }
+            Path::Seq(p, q) => self.seq(self.build_path(p)?, self.build_path(q)?),
             Path::Star(p) => {
                 let p = self.build_path(p)?;
                 let track = Track::Star(Box::new(self.alloc, p.track)?, false);

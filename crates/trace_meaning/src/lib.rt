@@ -13,7 +13,5 @@ mod leads;
 mod node;
 mod operator;
 mod star;
-#[cfg(test)]
-mod tests;
 
 pub use judging::judge;

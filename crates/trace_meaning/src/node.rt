@@ -1,10 +1,10 @@
 use crate::operator::{Binary, Unary};
 
-/// Where a path leads from a position: `ahead`, to a later one that is a good end of it, and `stays`,
+/// Where a path leads from a position: `further`, to a later one that is a good end of it, and `stays`,
 /// to the position itself.
 #[derive(Clone, Copy)]
 pub struct Lead {
-    pub ahead: bool,
+    pub further: bool,
     pub stays: bool,
 }
 
@@ -33,6 +33,6 @@ pub enum Track {
     Choice(Box<Track>, Box<Track>),
     /// With where the second path leads from the first of those letters.
     Seq(Box<Track>, Box<Track>, Lead),
-    /// With whether the star leads ahead from the first of those letters.
+    /// With whether the star leads further from the first of those letters.
     Star(Box<Track>, bool),
 }

@@ -22,7 +22,7 @@ impl Lead {
     fn through(self, good: bool) -> bool
         ensures { result ≡ spec.through self good }
     {
-        self.ahead || self.stays && good
+        self.further || self.stays && good
     }
 
     /// Where a choice of the two leads.
@@ -30,7 +30,7 @@ impl Lead {
         ensures { result ≡ spec.either self other }
     {
         Lead {
-            ahead: self.ahead || other.ahead,
+            further: self.further || other.further,
             stays: self.stays || other.stays,
         }
     }
@@ -40,7 +40,7 @@ impl Lead {
         ensures { result ≡ spec.in_turn self other }
     {
         Lead {
-            ahead: self.ahead || self.stays && other.ahead,
+            further: self.further || self.stays && other.further,
             stays: self.stays && other.stays,
         }
     }
@@ -48,26 +48,26 @@ impl Lead {
 
 #[inline(always)]
 fn step(values: &mut Vec<bool>, later: bool) -> Lead
-    ensures ahead { result.ahead ≡ (column.last values.old.items && later) }
+    ensures further { result.further ≡ (column.last values.old.items && later) }
     ensures stays { result.stays ≡ false }
     ensures left { values.new.items ≡ column.without_last values.old.items }
 {
     let x = take_last(values);
     Lead {
-        ahead: x & later,
+        further: x & later,
         stays: false,
     }
 }
 
 #[inline(always)]
 fn test(values: &mut Vec<bool>) -> Lead
-    ensures ahead { result.ahead ≡ false }
+    ensures further { result.further ≡ false }
     ensures stays { result.stays ≡ column.last values.old.items }
     ensures left { values.new.items ≡ column.without_last values.old.items }
 {
     let x = take_last(values);
     Lead {
-        ahead: false,
+        further: false,
         stays: x,
     }
 }
@@ -111,34 +111,34 @@ fn follow_parts(track: &mut Track, later: bool) -> Lead
         }
         Track::Star(p, next) => {
             let x = follow(p, *next | later);
-            *next = x.ahead;
+            *next = x.further;
             Lead {
-                ahead: x.ahead,
+                further: x.further,
                 stays: true,
             }
         }
     }
 }
 
-/// Where turns of the path lead ahead from each position of a block. `ahead` says of each whether
-/// the next one is good, and then whether turns lead ahead from it; `next` says so of the position
+/// Where turns of the path lead further from each position of a block. `further` says of each whether
+/// the next one is good, and then whether turns lead further from it; `next` says so of the position
 /// after the block.
-pub fn take_turns(track: &mut Track, next: bool, ahead: &mut Vec<bool>) -> bool
-    ensures ahead { ahead.new.items ≡ spec.turns_ahead next ahead.old.items (path_state track.old) }
+pub fn take_turns(track: &mut Track, next: bool, further: &mut Vec<bool>) -> bool
+    ensures further { further.new.items ≡ spec.turns_further next further.old.items (path_state track.old) }
     ensures first { result ≡
-        spec.first_or next (spec.turns_ahead next ahead.old.items (path_state track.old)) }
+        spec.first_or next (spec.turns_further next further.old.items (path_state track.old)) }
     ensures followed { path_state track.new ≡
-        spec.turns_followed next ahead.old.items (path_state track.old) }
-    ensures whole { length ahead.new.items ≡ length ahead.old.items }
+        spec.turns_followed next further.old.items (path_state track.old) }
+    ensures whole { length further.new.items ≡ length further.old.items }
 {
     let mut next = next;
-    let mut i = ahead.len();
+    let mut i = further.len();
     while i > 0 {
         i -= 1;
-        let good = next | ahead[i];
+        let good = next | further[i];
         let lead = follow(track, good);
-        next = lead.ahead;
-        ahead[i] = next;
+        next = lead.further;
+        further[i] = next;
     }
     next
 }

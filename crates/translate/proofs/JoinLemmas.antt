@@ -8,7 +8,7 @@ use Rattle.diagrams.specs.declared.top.Id.{Id}
 use Rattle.diagrams.specs.declared.work.Op.{Op}
 use Rattle.diagrams.specs.declared.work.Op.TheVariants.{And, Or, Iff, Least, Greatest, Pair}
 use Rattle.diagrams.specs.Tree.{Assignment}
-use Rattle.diagrams.specs.Eval.{Diagrams, eval}
+use Rattle.diagrams.specs.Eval.{Diagrams, eval, is_one, literal_value}
 use Rattle.diagrams.specs.Live.{IsLive, Keeps, Means}
 use Rattle.diagrams.specs.Branch.{split_value}
 use Rattle.diagrams.specs.Work.{CanApply, CanCombine, applied, combined_value}
@@ -18,7 +18,7 @@ use Rattle.obligations.specs.Value.{by_values, cell, holds, IsClaim, IsBody, Fit
 use Rattle.obligations.specs.Inclusion.{later}
 use Rattle.obligations.proofs.Holds.{by_values-obligations, cell-lasts, body_lasts}
 use Rattle.translate.proofs.StandingLemmas.{body_wider}
-use Rattle.translate.specs.Joined.{IsJoin, joined, is_one, literal_value}
+use Rattle.translate.specs.Joined.{IsJoin, joined}
 
 -- a literal is 0 or 1
 pub literal_small : (v : ℕ) (a : Assignment) → literal_value v a < 2
@@ -142,13 +142,6 @@ combined_one n op j f g i x y m a = ap (λ v. v == 1) (m.value a) ∙ applied_on
 split_literal : (b : Bool) (x y : ℕ) → x ≡ 0 → y ≡ 1 → (if b then y else x) ≡ (if b then 1 else 0)
 split_literal true x y e f = f
 split_literal false x y e f = e
-
--- a node of the constants 0 and 1 is a literal
-pub literal_ok : {E : Type 0} (r : Result Id E) (s0 s n : Diagrams) → Keeps s0 s → (v : ℕ) (lo hi : Id) → Means s0 lo (λ _. 0) → Means s hi (λ _. 1)
-    → IfOk r (λ id. Means n id (split_value s v lo hi)) → IfOk r (λ id. Means n id (literal_value v))
-literal_ok r s0 s n k v lo hi l h =
-    IfOk-weaker r (λ id. Means n id (split_value s v lo hi)) (λ id. Means n id (literal_value v))
-    (λ id m. record { live = m.live; value = λ a. m.value a ∙ split_literal (a v) (eval s lo a) (eval s hi a) ((means_lasts s0 s k lo (λ _. 0) l).value a) (h.value a) })
 
 -- a body as its store and its table grow
 pub body_grown : (s n : Diagrams) → Keeps s n → (count more : ℕ) (f : Id) → count ≤ more → IsBody s count f → IsBody n more f

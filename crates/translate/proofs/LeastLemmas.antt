@@ -6,16 +6,14 @@ use Rattle.std.proofs.lemmas.Bool.Decides.{nat_tests}
 use Rattle.std.proofs.lemmas.Result.{IfOk-weaker}
 use Rattle.std.proofs.lemmas.List.{get_or_append_left, get_or_at}
 use Rattle.forms.specs.Word.{Word, Claim}
-use Rattle.forms.specs.Tree.{Formula, Not}
-use Rattle.forms.specs.Satisfaction.{sat}
 use Rattle.diagrams.specs.declared.top.Id.{Id}
 use Rattle.diagrams.specs.Eval.{Diagrams, letter_truth}
 use Rattle.diagrams.specs.Live.{Keeps}
-use Rattle.diagrams.specs.Composed.{item_of}
+use Rattle.diagrams.specs.Eval.{id_at}
 use Rattle.automata.specs.Moves.{location_after, mark_after, HaveSameMarks}
-use Rattle.automata.specs.Table.{Table, size_of, mark_of, row_of, Fits, next_of, moves_of, IsMeant}
+use Rattle.automata.specs.Table.{Table, size_of, mark_of, row_of, Fits, next_of, moves_of}
 use Rattle.automata.specs.Numbering.{IsNumbered}
-use Rattle.minimise.specs.Least.{IsLeast}
+use Rattle.minimise.specs.Minimal.{IsLeast}
 use Rattle.translate.specs.Exact.{accepted, IsLeastOf}
 use Rattle.translate.specs.Standing.{IsFlipped}
 
@@ -54,7 +52,7 @@ pub record IsFlippedTo (t : Table) (marks : List ℕ) (rows : List Id) (n : ℕ)
   pub mark_count : length marks ≡ n
   pub row_count : length rows ≡ n
   pub mark : (at : ℕ) → at < n → slice_index marks at ≡ (if mark_of t at == 1 then 0 else 1)
-  pub row : (at : ℕ) → at < n → item_of rows at ≡ row_of t at
+  pub row : (at : ℕ) → at < n → id_at rows at ≡ row_of t at
 
 -- before the first location
 pub flipped_first : (t : Table) → IsFlippedTo t [] [] 0
@@ -79,7 +77,7 @@ flipped_next t marks rows n mark row x e f = record {
         | inl l ↦ get_or_append_left rows (row ∷ []) _ at (rw x.row_count l) ∙ x.row at l
         | inr l ↦
             let b : at ≡ n = omega arith in
-            let m : item_of (rows ++ row ∷ []) n ≡ row = get_or_at rows row [] _ n x.row_count in
+            let m : id_at (rows ++ row ∷ []) n ≡ row = get_or_at rows row [] _ n x.row_count in
             rw b (m ∙ f)
       ];
 }
@@ -189,10 +187,6 @@ pub flipped_ok : {E : Type 0} (r : Result Table E) (s : Diagrams) (t : Table) �
     → IfOk r (IsFlipped t) → IfOk r (λ q. IsLeastOf s q (λ w. not (accepted s t w)))
 flipped_ok r s t f h small l m = IfOk-weaker r (IsFlipped t) (λ q. IsLeastOf s q (λ w. not (accepted s t w))) (λ q x. IsLeastOf-flipped s t q f h small l m x)
 
--- the least automaton of what a flipped automaton accepts is that of the negation
-pub negated : (s n : Diagrams) → Keeps s n → (t other q : Table) (f g : Formula) → g ≡ f → IsMeant s t f → t.first < size_of t → IsFlipped t other → IsLeastOf n q (accepted s other)
-    → IsLeastOf n q (λ w. sat n.props (Not g) w)
-negated s n k t other q f g e m h x l =
-    IsLeastOf-same n q (accepted s other) (λ w. sat n.props (Not g) w)
-    (λ w. accepted-flipped s t other m.fits h x w ∙ ap not (m.same w) ∙ rw (k.extends.props, e) refl)
-    l
+-- the least automaton of what a flipped automaton accepts is that of what the other does not accept
+pub negated : (s n : Diagrams) (t other q : Table) → Fits s t → t.first < size_of t → IsFlipped t other → IsLeastOf n q (accepted s other) → IsLeastOf n q (λ w. not (accepted s t w))
+negated s n t other q f h x l = IsLeastOf-same n q (accepted s other) (λ w. not (accepted s t w)) (λ w. accepted-flipped s t other f h x w) l

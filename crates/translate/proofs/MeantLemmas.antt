@@ -6,17 +6,19 @@ use Rattle.std.proofs.lemmas.List.Elements.{All-append, All-cons, All-nil}
 use Rattle.forms.specs.Word.{Word, Claim, IsOver, is_empty}
 use Rattle.forms.specs.Paths.{reaches}
 use Rattle.forms.specs.Tree.{Formula, Program, tree}
+use Rattle.forms.specs.Proper.{IsProper}
 use Rattle.forms.specs.Satisfaction.{sat, goes, meets}
 use Rattle.forms.specs.Equivalence.{HasClassCount}
-use Rattle.forms.proofs.Ahead.{not-reaches}
+use Rattle.forms.proofs.Further.{not-reaches}
 use Rattle.diagrams.specs.Eval.{Diagrams}
 use Rattle.diagrams.specs.Live.{Keeps}
 use Rattle.automata.specs.declared.meant.Meant.{Meant}
-use Rattle.automata.specs.Moves.{Moves, location_after, mark_after, IsClosed, AgreeOnMarks}
+use Rattle.automata.specs.Moves.{Moves, location_after, mark_after, IsClosed, HaveSameMarksOver}
 use Rattle.automata.specs.Table.{Table, size_of, moves_of, IsMeant}
 use Rattle.automata.proofs.Lasts.{mark_after-lasts, meant_lasts}
+use Rattle.automata.proofs.Everywhere.{IsMeant-everywhere}
 use Rattle.automata.proofs.Words.{location_after-within}
-use Rattle.minimise.specs.Least.{IsLeastFor, Decides, AreTheSame}
+use Rattle.minimise.specs.Minimal.{IsLeastFor, Decides, AreTheSame}
 use Rattle.minimise.proofs.Counts.{size_is_class_count}
 use Rattle.minimise.proofs.Unique.{least_is_unique}
 use Rattle.minimise.proofs.Smallest.{least_is_smallest}
@@ -28,7 +30,7 @@ use Rattle.translate.specs.declared.operation.Binary.TheVariants.{And, Or, Impli
 use Rattle.translate.specs.declared.operation.Modal.TheVariants.{Diamond, BoxAll}
 use Rattle.translate.specs.Exact.{accepted, IsLeastOf, IsLeastMeant}
 use Rattle.translate.specs.Operation.{constant_form, unary_form, unary_claim, binary_form, binary_claim, modal_form, modal_claim, box_claim}
-use Rattle.translate.specs.Tests.{IsTest, IsAppended}
+use Rattle.translate.specs.PathTests.{IsTest, IsAppended}
 
 -- the least automaton of a claim is that of an equal one
 pub least_as : (s : Diagrams) (t : Table) (f g : Claim) → f ≡ g → IsLeastOf s t f → IsLeastOf s t g
@@ -125,7 +127,7 @@ same_mark (suc (suc x)) y h k e = absurd (omega arith)
 same_mark x (suc (suc y)) h k e = absurd (omega arith)
 
 -- two automata that decide claims that agree have the same marks
-pub agree_of : (p : ℕ) (m n : Moves) (f g : Claim) → IsClosed p m → IsClosed p n → Decides p m f → Decides p n g → ((w : Word) → IsOver p w → f w ≡ g w) → AgreeOnMarks p m n
+pub agree_of : (p : ℕ) (m n : Moves) (f g : Claim) → IsClosed p m → IsClosed p n → Decides p m f → Decides p n g → ((w : Word) → IsOver p w → f w ≡ g w) → HaveSameMarksOver p m n
 agree_of p m n f g c d x y e w o =
     same_mark (mark_after m m.first w) (mark_after n n.first w)
     (x.marks (location_after m m.first w) (location_after-within p m c m.first w c.first o))
@@ -167,7 +169,24 @@ whole_made s n a t f p e x h =
 
 -- a least automaton is one of its formula
 pub meant_of : (s : Diagrams) (t : Table) (f : Formula) → IsLeastMeant s t f → IsMeant s t f
-meant_of s t f h = record { fits = h.fits; same = h.same }
+meant_of s t f h = record { fits = h.fits; same = λ w o. h.same w }
+
+-- a least automaton stands for a formula that holds on the same words
+pub meant_by : (s n : Diagrams) → Keeps s n → (t : Table) (g : Claim) (f : Formula) → IsLeastOf n t g → ((w : Word) → IsOver s.props w → g w ≡ sat s.props f w) → IsMeant n t f
+meant_by s n k t g f l e = record {
+  fits = l.fits;
+  same = λ w o. l.same w ∙ e w (subst (λ p. IsOver p w) k.extends.props o) ∙ ap (λ p. sat p f w) (sym k.extends.props);
+}
+
+-- a least automaton that stands for a proper formula is the formula's least one, whatever the numbers of a list
+pub least_meant : (s : Diagrams) (t : Table) (g : Claim) (f : Formula) → IsProper s.props f → IsLeastOf s t g → IsMeant s t f → IsLeastMeant s t f
+least_meant s t g f proper l m = record {
+  fits = l.fits;
+  marks = l.marks;
+  same = λ w. IsMeant-everywhere s t f proper m w;
+  least = l.least;
+  numbered = l.numbered;
+}
 
 -- tests stay tests
 pub tests_last : (s n : Diagrams) → Keeps s n → (ts : List Meant) → All (IsTest s) ts → All (IsTest n) ts

@@ -8,14 +8,14 @@ use Rattle.forms.specs.Operators.{atom, next, weak_next, until, release, eventua
 use Rattle.diagrams.specs.declared.top.Id.{Id}
 use Rattle.diagrams.specs.declared.work.Op.TheVariants.{And, Or}
 use Rattle.diagrams.specs.Tree.{Assignment}
-use Rattle.diagrams.specs.Eval.{Diagrams, eval}
+use Rattle.diagrams.specs.Eval.{Diagrams, eval, literal_value, is_one}
 use Rattle.diagrams.specs.Live.{Keeps, IsTruth, Means}
 use Rattle.diagrams.specs.Work.{chosen_value}
 use Rattle.diagrams.proofs.Meaning.{eval-lasts, means_lasts, Keeps_trans}
 use Rattle.obligations.specs.declared.cells.Obligation.{Obligation}
 use Rattle.obligations.specs.Value.{by_values, joint, cell, holds, IsBody, IsClaim, FitsCells}
 use Rattle.obligations.proofs.Holds.{joint-letter}
-use Rattle.translate.specs.Joined.{literal_value, is_one, repeated, awaited, stepped, ended}
+use Rattle.translate.specs.Joined.{repeated, awaited, stepped, ended}
 use Rattle.translate.proofs.JoinLemmas.{literal_claim, literal_holds, literal_truth, literal_one, literal_same, literal_small}
 
 -- eventually

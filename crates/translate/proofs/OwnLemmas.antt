@@ -5,7 +5,7 @@ use Rattle.forms.specs.Word.{Word, Claim}
 use Rattle.diagrams.specs.declared.top.Id.{Id}
 use Rattle.diagrams.specs.declared.work.Op.{Op}
 use Rattle.diagrams.specs.Tree.{Assignment}
-use Rattle.diagrams.specs.Eval.{Diagrams}
+use Rattle.diagrams.specs.Eval.{Diagrams, is_one, literal_value}
 use Rattle.diagrams.specs.Live.{Keeps, IsLive, Means}
 use Rattle.diagrams.specs.Work.{combined_value}
 use Rattle.diagrams.proofs.Meaning.{eval-lasts, live_lasts, means_lasts, Keeps_refl}
@@ -15,7 +15,7 @@ use Rattle.obligations.specs.Value.{cell, holds, joint, IsBody, IsClaim, FitsCel
 use Rattle.obligations.specs.Inclusion.{later}
 use Rattle.obligations.proofs.Holds.{body_lasts}
 use Rattle.obligations.proofs.InclusionLemmas.{later-joint}
-use Rattle.translate.specs.Joined.{IsJoin, joined, is_one, literal_value, repeated, awaited, stepped, ended}
+use Rattle.translate.specs.Joined.{IsJoin, joined, repeated, awaited, stepped, ended}
 use Rattle.translate.specs.Standing.{Stands}
 use Rattle.translate.proofs.StandingLemmas.{goes_on_add, last_entry, fits_add}
 use Rattle.translate.proofs.JoinLemmas.{literal_claim, literal_holds, literal_says, literal_body, literal_truth, body_grown, combined_body, combined_one, combined_lasts}

@@ -7,7 +7,7 @@ use Rattle.diagrams.specs.Eval.{Diagrams}
 use Rattle.automata.specs.Moves.{accepts}
 use Rattle.automata.specs.Table.{Table, size_of, mark_of, Fits, moves_of}
 use Rattle.automata.specs.Numbering.{IsNumbered}
-use Rattle.minimise.specs.Least.{IsLeast}
+use Rattle.minimise.specs.Minimal.{IsLeast}
 
 -- what an automaton accepts
 abbrev pub accepted : Diagrams → Table → Claim

@@ -26,14 +26,6 @@ joined Least x y = false
 joined Greatest x y = false
 joined (Pair w) x y = false
 
--- whether a diagram is 1
-abbrev pub is_one : Diagrams → Id → Assignment → Bool
-is_one s f a = eval s f a == 1
-
--- 1 where a variable is true, and else 0
-abbrev pub literal_value : ℕ → Assignment → ℕ
-literal_value v a = if a v then 1 else 0
-
 -- f here joined with the same at the next position; a constant at the end
 abbrev pub repeated : Op → Bool → Claim → Claim
 repeated op ends f [] = ends

@@ -3,5 +3,5 @@ pub mod Counting
 pub mod Joined
 pub mod Standing
 pub mod Operation
-pub mod Tests
+pub mod PathTests
 pub mod Tally

@@ -2,7 +2,7 @@
 use Rattle.std.specs.Prelude.{Bool, true, false, not, ◌&&◌, ◌||◌}
 use Rattle.forms.specs.Word.{Claim, every_suffix}
 use Rattle.forms.specs.Operators as claims
-use Rattle.forms.specs.Paths.{Link, reaches}
+use Rattle.forms.specs.Paths.{WordRelation, reaches}
 use Rattle.forms.specs.Tree.{Formula, Program}
 use Rattle.forms.specs.Tree as form
 use Rattle.translate.specs.declared.operation.Unary.{Unary}
@@ -56,11 +56,11 @@ abbrev pub modal_form : Modal → Program → Formula → Formula
 modal_form Diamond p f = form.Diamond p f
 modal_form BoxAll p f = form.BoxAll p f
 
--- every suffix to which the link leads has f
-abbrev pub box_claim : Link → Claim → Claim
+-- every suffix to which the relation leads has f
+abbrev pub box_claim : WordRelation → Claim → Claim
 box_claim q f = λ u. every_suffix (λ v. not (q u v) || f v) u
 
 -- what it says of words, by where the path leads and what the formula says
-abbrev pub modal_claim : Modal → Link → Claim → Claim
+abbrev pub modal_claim : Modal → WordRelation → Claim → Claim
 modal_claim Diamond q f = reaches q f
 modal_claim BoxAll q f = box_claim q f

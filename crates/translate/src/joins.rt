@@ -6,7 +6,8 @@ ghost use Rattle.automata.specs.Table.{Fits};
 ghost use Rattle.obligations.specs.Value.{IsBody, FitsCells, cell};
 ghost use Rattle.obligations.specs.Inclusion.{later};
 ghost use Rattle.translate.specs.Exact.{accepted, IsLeastOf};
-ghost use Rattle.translate.specs.Joined.{IsJoin, joined, is_one, literal_value, repeated, awaited, stepped};
+ghost use Rattle.diagrams.specs.Eval.{is_one, literal_value};
+ghost use Rattle.translate.specs.Joined.{IsJoin, joined, repeated, awaited, stepped};
 
 use crate::least::solved;
 use crate::operands::{Asked, Operands, operand, operand_and_end, two_operands};
@@ -15,16 +16,6 @@ use bes_io::Memory;
 use diagrams::{Id, Op, Store};
 use obligations::Cells;
 use std::alloc::Global;
-
-/// The diagram that is 1 where a variable is true.
-pub(crate) fn variable(store: &mut Store, var: u32) -> Result<Id, Memory>
-    ensures keeps { Keeps store.old store.new }
-    ensures value { IfOk result (λ id. Means store.new id (literal_value var)) }
-{
-    let lo = store.terminal(0)?;
-    let hi = store.terminal(1)?;
-    store.node(var, lo, hi)
-}
 
 /// The diagrams of the operands' obligations, as they are asked for.
 pub(crate) fn literals(store: &mut Store, of: &Operands) -> Result<(Id, Id), Memory>
@@ -35,8 +26,8 @@ pub(crate) fn literals(store: &mut Store, of: &Operands) -> Result<(Id, Id), Mem
     ensures second { IfOk result (λ made. Means store.new made.1 (literal_value (store.old.props + of.now.second))) }
 {
     let props = store.props();
-    let first = variable(store, props + of.first)?;
-    let second = variable(store, props + of.second)?;
+    let first = store.literal(props + of.first)?;
+    let second = store.literal(props + of.second)?;
     Ok((first, second))
 }
 
@@ -54,7 +45,7 @@ pub(crate) fn joined_now(
     ensures keeps { Keeps store.old store.new }
     ensures least { IfOk result (λ made. IsLeastOf store.new made (λ w. joined op (cell store.old of.now.cells w of.now.first) (cell store.old of.now.cells w of.now.second))) }
 {
-    let _ = of.cells.len();
+    prove!(of.cells.len() <= 2147483647);
     let (first, second) = literals(store, of)?;
     let start = store.combine(op, first, second)?;
     solved(alloc, store, &of.cells, start)
@@ -88,7 +79,7 @@ fn with_next(store: &mut Store, op: Op, now: Id, own: u32) -> Result<Id, Memory>
     ensures says { IfOk result (λ id. (a : Assignment) → is_one store.new id a ≡ joined op (is_one store.new now a) (later store.new own a)) }
 {
     let props = store.props();
-    let next = variable(store, props + own)?;
+    let next = store.literal(props + own)?;
     store.combine(op, now, next)
 }
 
@@ -105,11 +96,10 @@ pub(crate) fn solved_with(
     ensures keeps { Keeps store.old store.new }
     ensures least { IfOk result (λ made. IsLeastOf store.new made (λ w. cell store.old (cells ++ record { ends = ends; body = body } ∷ []) w (length cells))) }
 {
-    let _ = store.look(body);
     let props = store.props();
     let last = cells.add(ends, body)?;
-    let _ = cells.len();
-    let start = variable(store, props + last)?;
+    prove!(cells.len() <= 2147483647);
+    let start = store.literal(props + last)?;
     solved(alloc, store, &cells, start)
 }
 
@@ -173,7 +163,7 @@ pub(crate) fn stepped_by(
     ensures least { IfOk result (λ made. IsLeastOf store.new made (stepped op ends (accepted store.old a.now))) }
 {
     let of = operand_and_end(alloc, store, a, Asked::Alone, ends)?;
-    let _ = of.cells.len();
+    prove!(of.cells.len() <= 2147483647);
     let (next, end) = literals(store, &of)?;
     let body = store.combine(op, end, next)?;
     solved_with(alloc, store, of.cells, ends, body)

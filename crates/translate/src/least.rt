@@ -24,7 +24,7 @@ pub(crate) fn least_of(
     ensures keeps { Keeps store.old store.new }
     ensures least { IfOk result (λ made. IsLeastOf store.new made (accepted store.old automaton)) }
 {
-    let _ = automaton.first();
+    prove!(automaton.first() < automaton.size());
     minimise(alloc, store, automaton)
 }
 

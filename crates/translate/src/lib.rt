@@ -15,11 +15,7 @@ mod operation;
 mod operators;
 mod parts;
 mod programs;
-#[cfg(test)]
-mod tests;
 mod translating;
-#[cfg(test)]
-mod translating_tests;
 
 pub use connectives::{both, either, negate};
 pub use counts::Counts;

@@ -62,10 +62,11 @@ pub(crate) fn operand(
     ensures grows { GoesOn cells.old cells.new }
     ensures stands { IfOk result (λ first. Stands store.new cells.new first (accepted store.old automaton.now)) }
 {
-    let _ = store.look(automaton.row(automaton.first()));
+    prove!(automaton.first() < automaton.size());
+    prove!(store.props() <= 32);
     let wider = wider(alloc, store, automaton, asked)?;
     let base = follow(alloc, store, cells, automaton, &wider)?;
-    let _ = cells.len();
+    prove!(cells.len() <= 2147483647);
     Ok(base + automaton.first())
 }
 
@@ -84,7 +85,7 @@ pub(crate) fn two_operands(
     ensures first { IfOk result (λ made. Stands store.new made.cells made.first (accepted store.old a.now)) }
     ensures second { IfOk result (λ made. Stands store.new made.cells made.second (accepted store.old b.now)) }
 {
-    let _ = b.first();
+    prove!(b.first() < b.size());
     let mut cells = Cells::new(alloc);
     let first = operand(alloc, store, &mut cells, a, asked)?;
     let second = operand(alloc, store, &mut cells, b, asked)?;

@@ -4,13 +4,13 @@ ghost use Rattle.forms.specs.Tree.{tree, program};
 ghost use Rattle.forms.specs.Proper.{IsProperProgram};
 ghost use Rattle.forms.specs.Satisfaction.{goes};
 ghost use Rattle.diagrams.specs.Live.{Keeps};
-ghost use Rattle.automata.specs.Table.{size_of, mark_of, Fits, moves_of, IsMeant};
+ghost use Rattle.automata.specs.Table.{size_of, mark_of, Fits, moves_of};
 ghost use Rattle.automata.specs.Numbering.{IsNumbered};
-ghost use Rattle.minimise.specs.Least.{IsLeast};
+ghost use Rattle.minimise.specs.Minimal.{IsLeast};
 ghost use Rattle.translate.specs.Exact.{accepted, IsLeastOf};
 ghost use Rattle.translate.specs.Operation.{unary_claim, binary_claim, modal_claim};
-ghost use Rattle.path_programs.specs.Tests.{test_forms};
-ghost use Rattle.translate.specs.Tests.{IsTest};
+ghost use Rattle.path_programs.specs.PathTests.{test_forms};
+ghost use Rattle.translate.specs.PathTests.{IsTest};
 
 use crate::{operators, programs};
 use automata::{Automaton, Meant};

@@ -5,12 +5,11 @@ ghost use Rattle.forms.specs.Operators as claims;
 ghost use Rattle.diagrams.specs.Live.{Keeps};
 ghost use Rattle.automata.specs.Table.{size_of, mark_of, Fits, moves_of};
 ghost use Rattle.automata.specs.Numbering.{IsNumbered};
-ghost use Rattle.minimise.specs.Least.{IsLeast};
+ghost use Rattle.minimise.specs.Minimal.{IsLeast};
 ghost use Rattle.translate.specs.Exact.{accepted, IsLeastOf};
 
 use crate::joins::{
     awaited_by, joined_automata, joined_now, literals, repeated_by, solved_with, stepped_by,
-    variable,
 };
 use crate::least::{flipped, solved};
 use crate::operands::{Asked, operand_and_end, two_operands};
@@ -36,7 +35,7 @@ pub(crate) fn atom(alloc: Global, store: &mut Store, i: u32) -> Result<Automaton
     ensures keeps { Keeps store.old store.new }
     ensures least { IfOk result (λ made. IsLeastOf store.new made (claims.atom store.old.props i)) }
 {
-    let body = variable(store, i)?;
+    let body = store.literal(i)?;
     solved_with(alloc, store, Cells::new(alloc), false, body)
 }
 
@@ -49,7 +48,8 @@ pub(crate) fn not(alloc: Global, store: &mut Store, a: &Automaton) -> Result<Aut
     ensures keeps { Keeps store.old store.new }
     ensures least { IfOk result (λ made. IsLeastOf store.new made (λ w. not (accepted store.old a.now w))) }
 {
-    let _ = store.look(a.row(a.first()));
+    prove!(a.first() < a.size());
+    prove!(store.props() <= 32);
     flipped(alloc, a)
 }
 
@@ -96,7 +96,7 @@ pub(crate) fn implies(
     ensures least { IfOk result (λ made. IsLeastOf store.new made (λ w. not (accepted store.old a.now w) || accepted store.old b.now w)) }
 {
     let of = two_operands(alloc, store, a, b, Asked::Alone)?;
-    let _ = of.cells.len();
+    prove!(of.cells.len() <= 2147483647);
     let (first, second) = literals(store, &of)?;
     let one = store.terminal(1)?;
     let start = store.ite(first, second, one)?;

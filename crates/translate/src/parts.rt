@@ -8,8 +8,8 @@ ghost use Rattle.translate.specs.Exact.{IsLeastMeant};
 ghost use Rattle.translate.specs.Operation.{constant_form, unary_form, binary_form, modal_form};
 ghost use Rattle.translate.specs.Counting.{IfTooMany};
 ghost use Rattle.translate.specs.Tally.{AddsCounts, StopsAt};
-ghost use Rattle.path_programs.specs.Tests.{test_forms};
-ghost use Rattle.translate.specs.Tests.{IsTest, IsAppended};
+ghost use Rattle.path_programs.specs.PathTests.{test_forms};
+ghost use Rattle.translate.specs.PathTests.{IsTest, IsAppended};
 
 use crate::counts::Counts;
 use crate::fault::TranslateFault;

@@ -7,13 +7,12 @@ ghost use Rattle.forms.specs.Satisfaction.{goes};
 ghost use Rattle.diagrams.specs.Live.{Keeps};
 ghost use Rattle.automata.specs.Table.{size_of, mark_of, Fits, moves_of};
 ghost use Rattle.automata.specs.Numbering.{IsNumbered};
-ghost use Rattle.minimise.specs.Least.{IsLeast};
+ghost use Rattle.minimise.specs.Minimal.{IsLeast};
 ghost use Rattle.translate.specs.Exact.{accepted, IsLeastOf};
 ghost use Rattle.translate.specs.Operation.{box_claim};
-ghost use Rattle.path_programs.specs.Tests.{test_forms};
-ghost use Rattle.translate.specs.Tests.{IsTest};
+ghost use Rattle.path_programs.specs.PathTests.{test_forms};
+ghost use Rattle.translate.specs.PathTests.{IsTest};
 
-use crate::joins::variable;
 use crate::least::solved;
 use crate::operands::{Asked, operand};
 use crate::operators;
@@ -45,9 +44,9 @@ pub(crate) fn diamond(
     let mut cells = Cells::new(alloc);
     let then = operand(alloc, store, &mut cells, a, Asked::WithInclusions)?;
     let leads = compile(alloc, store, path, then, tests, &mut cells)?;
-    let _ = cells.len();
+    prove!(cells.len() <= 2147483647);
     let props = store.props();
-    let start = variable(store, props + leads)?;
+    let start = store.literal(props + leads)?;
     solved(alloc, store, &cells, start)
 }
 

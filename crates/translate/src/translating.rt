@@ -8,7 +8,7 @@ ghost use Rattle.forms.specs.Equivalence.{HasClassCount};
 ghost use Rattle.diagrams.specs.Live.{Keeps};
 ghost use Rattle.automata.specs.Moves.{Moves, IsClosed};
 ghost use Rattle.automata.specs.Table.{size_of, moves_of};
-ghost use Rattle.minimise.specs.Least.{IsLeastFor, Decides, AreTheSame};
+ghost use Rattle.minimise.specs.Minimal.{IsLeastFor, Decides, AreTheSame};
 ghost use Rattle.translate.specs.Exact.{IsLeastOf};
 ghost use Rattle.translate.specs.Counting.{AreCounts, IfTooMany, IsFirstOver};
 
@@ -55,8 +55,7 @@ pub fn translate(
         → Decides store.old.props m (λ w. meets store.old.props (tree form.now) w) → size_of made.whole ≤ m.size) }
     ensures too_many { IfErr result (λ fault. IfTooMany fault (IsFirstOver store.old.props (tree form.now) limit)) }
 {
-    // The parts need a canonical store, and any call of the store says that it is one.
-    let _ = store.terminal(0)?;
+    prove!(store.props() <= 32);
     let mut counts = Counts::new(alloc);
     let automaton = part(alloc, store, form, limit, &mut counts)?;
     let whole = operators::nonempty(alloc, store, &automaton)?;

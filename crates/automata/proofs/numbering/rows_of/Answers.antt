@@ -11,7 +11,7 @@ use Rattle.automata.proofs.numbering.rows_of.Goals as goal
 
 pub loop-at-init : goal.loop-at-init
 loop-at-init c = record {
-  keeps = Keeps_refl c.args.store.now c.look.ensures.canonical;
+  keeps = Keeps_refl c.args.store.now c.props.ensures.canonical;
   rows = record { length = ap length c.new-rows.ensures.items; row = λ k h. absurd (omega (arith, h)) };
 }
 
@@ -22,10 +22,10 @@ map_terminals-requires c =
     let t = c.args.automaton.now in
     let found = c.args.reached.now.found.items in
     let i = c.loop-at.at-index in
-    let same : c.row-in-loop-at.result ≡ row_of t (slice_index found i) = c.row-in-loop-at.ensures ∙ ap (λ xs. row_of t (slice_index xs i)) c.deref-at-items.ensures.value in
+    let same : c.row.result ≡ row_of t (slice_index found i) = c.row.ensures ∙ ap (λ xs. row_of t (slice_index xs i)) c.deref-at-items.ensures.value in
     let l : i < length found = subst (λ xs. i < length xs) c.deref-at-items.ensures.value c.loop-at-test.true in
     let h : slice_index found i < size_of t = subst (λ z. slice_index found i < z) c.requires.size (c.requires.places.within i l) in
-    let r : IsRow n (size_of t) c.row-in-loop-at.result = rw (same) (row_lasts s n c.loop-at.invariant.keeps (size_of t) (row_of t (slice_index found i)) (c.requires.fits (slice_index found i) h)) in
+    let r : IsRow n (size_of t) c.row.result = rw (same) (row_lasts s n c.loop-at.invariant.keeps (size_of t) (row_of t (slice_index found i)) (c.requires.fits (slice_index found i) h)) in
     record { live = r.live; fit = λ a. rw (c.deref.ensures.value, c.requires.size) (r.targets a) }
 
 pub loop-at-preserved : goal.loop-at-preserved
@@ -37,12 +37,12 @@ loop-at-preserved c =
     let found = c.args.reached.now.found.items in
     let places = c.args.reached.now.places.items in
     let i = c.loop-at.at-index in
-    let same : c.row-in-loop-at.result ≡ row_of t (slice_index found i) = c.row-in-loop-at.ensures ∙ ap (λ xs. row_of t (slice_index xs i)) c.deref-at-items.ensures.value in
+    let same : c.row.result ≡ row_of t (slice_index found i) = c.row.ensures ∙ ap (λ xs. row_of t (slice_index xs i)) c.deref-at-items.ensures.value in
     let l : i < length found = subst (λ xs. i < length xs) c.deref-at-items.ensures.value c.loop-at-test.true in
     let h : slice_index found i < size_of t = subst (λ z. slice_index found i < z) c.requires.size (c.requires.places.within i l) in
     let m : Means after c.in_ok-map_terminals.field-0 (λ a. slice_index places (eval n (row_of t (slice_index found i)) a)) =
     subst (λ r. Means after c.in_ok-map_terminals.field-0 (λ a. slice_index places (eval n r a))) same
-    (subst (λ xs. Means after c.in_ok-map_terminals.field-0 (λ a. slice_index xs (eval n c.row-in-loop-at.result a))) c.deref.ensures.value c.in_ok-map_terminals.ensures.id) in
+    (subst (λ xs. Means after c.in_ok-map_terminals.field-0 (λ a. slice_index xs (eval n c.row.result a))) c.deref.ensures.value c.in_ok-map_terminals.ensures.id) in
     record {
       keeps = Keeps_trans s n after c.loop-at.invariant.keeps c.in_ok-map_terminals.ensures.keeps;
       rows = rw (c.in_ok-push.ensures.items)

@@ -8,12 +8,12 @@ use Rattle.bes_suite.specs.Formulas.{IsFormula}
 use Rattle.bes_suite.specs.Judge.{JudgeAnswers}
 use Rattle.bes_suite.specs.Showing.{FormsAnswers}
 use Rattle.bes_suite.specs.Translation.{TranslateAnswers}
-use Rattle.bes_suite.specs.Monitoring.{MonitorAnswers, IsWatchable}
+use Rattle.bes_suite.specs.Monitoring.{MonitorAnswers, IsFormulaWithinLimit}
 use Rattle.bes_suite.specs.Answers.{AnswersAs, MayReadAs}
 use Rattle.bes_suite.specs.Streams.{Streams}
-use Rattle.bes_suite.specs.Worlds.{Performs, needs_input, needs_nothing, world}
+use Rattle.bes_suite.specs.Worlds.{NoOutputIsDue, Performs, needs_input, needs_nothing, world}
 use Rattle.bes_suite.proofs.Performing.{refusal}
-use Rattle.bes_suite.proofs.RunLemmas.{performs-as, streams-as, needs_as}
+use Rattle.bes_suite.proofs.RunLemmas.{performs-as, streams-as, silent-as, needs_as}
 use Rattle.bes_suite.proofs.running.perform.Goals as goal
 
 pub returns-in-Usage-clause-performs : goal.returns-in-Usage-clause-performs
@@ -56,7 +56,7 @@ returns-in-Monitor-clause-performs g c =
     let many : 2 < length c.args.words.now = search rules in
     let text : c.bytes-in-Monitor.result.now ≡ word_at c.args.words.now 2 = c.bytes-in-Monitor.ensures ∙ c.index-words-2-in-Monitor.is ∙ get_or_default c.args.words.now 2 c.index-words-2-in-Monitor.result [] many in
     performs-as c.args.words.now (command.Monitor c.in-Monitor.dialect) (sym (sym c.find_command.ensures ∙ c.in-Monitor.is)) _ _ _
-    (subst (λ t. Performs needs_input (λ files rest. MonitorAnswers c.in-Monitor.dialect t rest) (IsWatchable c.in-Monitor.dialect t)
+    (subst (λ t. Performs needs_input (λ files rest. MonitorAnswers c.in-Monitor.dialect t rest) (IsFormulaWithinLimit c.in-Monitor.dialect t)
     (world (g.F.Files.contents c.args.files.now) (g.F.Files.failed c.args.files.now) (g.S.Source.left c.args.input.now) (g.S.Source.faults c.args.input.now) (g.O.Sink.held c.args.out.now) (g.O.Sink.faults c.args.out.now))
     (world (g.F.Files.contents c.args.files.now) (g.F.Files.failed c.args.files.now) (g.S.Source.left c.monitor_formula.new.input) (g.S.Source.faults c.monitor_formula.new.input) (g.O.Sink.held c.monitor_formula.new.out) (g.O.Sink.faults c.monitor_formula.new.out))
     c.monitor_formula.result) text (c.monitor_formula.ensures.performs _ _))
@@ -69,4 +69,36 @@ returns-in-Monitor-clause-streams g c contents rest =
     (λ tells. subst (λ t. Streams (MonitorAnswers c.in-Monitor.dialect t) rest
     (world (g.F.Files.contents c.args.files.now) (g.F.Files.failed c.args.files.now) (g.S.Source.left c.args.input.now) (g.S.Source.faults c.args.input.now) (g.O.Sink.held c.args.out.now) (g.O.Sink.faults c.args.out.now))
     (world (g.F.Files.contents c.args.files.now) (g.F.Files.failed c.args.files.now) (g.S.Source.left c.monitor_formula.new.input) (g.S.Source.faults c.monitor_formula.new.input) (g.O.Sink.held c.monitor_formula.new.out) (g.O.Sink.faults c.monitor_formula.new.out)))
-    text (c.monitor_formula.ensures.streams _ _ rest (λ may. tells.told_input (subst (IsWatchable c.in-Monitor.dialect) text may))))
+    text (c.monitor_formula.ensures.streams _ _ rest (λ may. tells.told_input (subst (IsFormulaWithinLimit c.in-Monitor.dialect) text may))))
+
+pub returns-in-Judge-clause-silent : goal.returns-in-Judge-clause-silent
+returns-in-Judge-clause-silent g c contents rest =
+    let many : 2 < length c.args.words.now = search rules in
+    let text : c.bytes.result.now ≡ word_at c.args.words.now 2 = c.bytes.ensures ∙ c.index-words-2.is ∙ get_or_default c.args.words.now 2 c.index-words-2.result [] many in
+    silent-as c.args.words.now (command.Judge c.in-Judge.dialect) (sym (sym c.find_command.ensures ∙ c.in-Judge.is)) contents rest _ (c.judge_formula.new.out ≡ c.args.out.now)
+    (λ tells. subst (λ t. NoOutputIsDue (JudgeAnswers c.in-Judge.dialect t rest) → c.judge_formula.new.out ≡ c.args.out.now) text
+    (c.judge_formula.ensures.silent rest (λ may. tells.told_input (subst (λ t. (f : Formula) × IsFormula c.in-Judge.dialect t f) text may))))
+
+pub returns-in-Forms-clause-silent : goal.returns-in-Forms-clause-silent
+returns-in-Forms-clause-silent g c contents rest =
+    let many : 2 < length c.args.words.now = search rules in
+    let text : c.bytes-in-Forms.result.now ≡ word_at c.args.words.now 2 = c.bytes-in-Forms.ensures ∙ c.index-words-2-in-Forms.is ∙ get_or_default c.args.words.now 2 c.index-words-2-in-Forms.result [] many in
+    silent-as c.args.words.now (command.Forms c.in-Forms.dialect) (sym (sym c.find_command.ensures ∙ c.in-Forms.is)) contents rest _ (c.show_formula.new.out ≡ c.args.out.now)
+    (λ tells. subst (λ t. NoOutputIsDue (FormsAnswers c.in-Forms.dialect t) → c.show_formula.new.out ≡ c.args.out.now) text
+    c.show_formula.ensures.silent)
+
+pub returns-in-Translate-clause-silent : goal.returns-in-Translate-clause-silent
+returns-in-Translate-clause-silent g c contents rest =
+    let many : 2 < length c.args.words.now = search rules in
+    let text : c.bytes-in-Translate.result.now ≡ word_at c.args.words.now 2 = c.bytes-in-Translate.ensures ∙ c.index-words-2-in-Translate.is ∙ get_or_default c.args.words.now 2 c.index-words-2-in-Translate.result [] many in
+    silent-as c.args.words.now (command.Translate c.in-Translate.dialect) (sym (sym c.find_command.ensures ∙ c.in-Translate.is)) contents rest _ (c.translate_formula.new.out ≡ c.args.out.now)
+    (λ tells. subst (λ t. NoOutputIsDue (TranslateAnswers c.in-Translate.dialect t) → c.translate_formula.new.out ≡ c.args.out.now) text
+    c.translate_formula.ensures.silent)
+
+pub returns-in-Monitor-clause-silent : goal.returns-in-Monitor-clause-silent
+returns-in-Monitor-clause-silent g c contents rest =
+    let many : 2 < length c.args.words.now = search rules in
+    let text : c.bytes-in-Monitor.result.now ≡ word_at c.args.words.now 2 = c.bytes-in-Monitor.ensures ∙ c.index-words-2-in-Monitor.is ∙ get_or_default c.args.words.now 2 c.index-words-2-in-Monitor.result [] many in
+    silent-as c.args.words.now (command.Monitor c.in-Monitor.dialect) (sym (sym c.find_command.ensures ∙ c.in-Monitor.is)) contents rest _ (c.monitor_formula.new.out ≡ c.args.out.now)
+    (λ tells. subst (λ t. NoOutputIsDue (MonitorAnswers c.in-Monitor.dialect t rest) → c.monitor_formula.new.out ≡ c.args.out.now) text
+    (c.monitor_formula.ensures.silent rest (λ may. tells.told_input (subst (IsFormulaWithinLimit c.in-Monitor.dialect) text may))))

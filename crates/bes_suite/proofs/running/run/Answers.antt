@@ -14,7 +14,7 @@ returns-clause-partly g c contents rest tells =
     (world (g.F.Files.contents c.args.files.now) (g.F.Files.failed c.args.files.now) (g.S.Source.left c.args.input.now) (g.S.Source.faults c.args.input.now) (g.O.Sink.held c.args.out.now) (g.O.Sink.faults c.args.out.now))
     (world (g.F.Files.contents c.perform-ending.new.files) (g.F.Files.failed c.perform-ending.new.files) (g.S.Source.left c.perform-ending.new.input) (g.S.Source.faults c.perform-ending.new.input) (g.O.Sink.held c.perform-ending.new.out) (g.O.Sink.faults c.perform-ending.new.out))
     (g.E.Sink.held c.args.err.now) (g.E.Sink.held c.finish.new.err) (g.E.Sink.faults c.args.err.now) (g.E.Sink.faults c.finish.new.err) c.finish.result.number
-    c.perform-ending.result (c.perform-ending.ensures.performs.adds contents rest tells) c.perform-ending.ensures.performs.nothing
+    c.perform-ending.result (c.perform-ending.ensures.performs.adds contents rest tells) c.finish.ensures.finishes
 
 pub returns-clause-answers : goal.returns-clause-answers
 returns-clause-answers g c contents rest tells =

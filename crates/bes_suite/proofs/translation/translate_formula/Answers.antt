@@ -6,36 +6,34 @@ use Rattle.bes_suite.specs.Limits.{most_classes}
 use Rattle.bes_suite.specs.Translation.{TranslateAnswers, formula_refused, translated, IsTranslation}
 use Rattle.bes_suite.specs.Worlds.{needs_nothing, Performs}
 use Rattle.bes_suite.proofs.Performing.{formula-ends, output-put}
-use Rattle.bes_suite.proofs.TranslationLemmas.{limit-ends}
+use Rattle.bes_suite.proofs.TranslationLemmas.{limit-ends, translation-due}
 use Rattle.bes_suite.proofs.translation.translate_formula.Goals as goal
 
-pub returns-in-Err : goal.returns-in-Err
-returns-in-Err g c = record {
-  performs = λ contents failed left reads.
-      formula-ends needs_nothing (λ files rest. TranslateAnswers c.args.dialect c.args.text.now) _ _ _ c.args.dialect c.args.text.now
-      (λ fault why files rest. formula_refused why) (λ may. absurd may) c.in-Err.ending c.in-Err.ensures.formula
-      (record { reads = refl; puts = refl; failed = refl }) refl;
-}
+pub returns-in-Err-clause-performs : goal.returns-in-Err-clause-performs
+returns-in-Err-clause-performs g c contents failed left reads =
+    formula-ends needs_nothing (λ files rest. TranslateAnswers c.args.dialect c.args.text.now) _ _ _ c.args.dialect c.args.text.now
+    (λ fault why files rest. formula_refused why) (λ may. absurd may) c.in-Err.ending c.in-Err.ensures.ending
+    (record { reads = refl; puts = refl; failed = refl }) refl
 
-pub returns-in-Ok-translation_text : goal.returns-in-Ok-translation_text
-returns-in-Ok-translation_text g c =
-    let f = tree c.in-Ok-read_formula.form in
-    let made = subst (λ names. IsTranslation names f c.in-Ok-translation_text.text) c.in-Ok-read_formula.ensures.names c.in-Ok-translation_text.ensures in
-    record {
-      performs = λ contents failed left reads.
-          output-put (λ files rest. TranslateAnswers c.args.dialect c.args.text.now) _ _ c.bytes.result.now
-          (λ files rest. subst (λ text. TranslateAnswers c.args.dialect c.args.text.now (record { output = text; ending = Positive })) (sym c.bytes.ensures)
-          (translated f c.in-Ok-read_formula.ensures.formula made))
-          refl refl c.put_all.result c.put_all.ensures;
-    }
+pub returns-in-Ok-translation_text-clause-performs : goal.returns-in-Ok-translation_text-clause-performs
+returns-in-Ok-translation_text-clause-performs g c contents failed left reads =
+    let f = tree c.in-Ok.read.0 in
+    let made = subst (λ names. IsTranslation names f c.in-Ok-translation_text.text) c.in-Ok.ensures.names c.in-Ok-translation_text.ensures in
+    output-put (λ files rest. TranslateAnswers c.args.dialect c.args.text.now) _ _ c.bytes.result.now
+    (λ files rest. subst (λ text. TranslateAnswers c.args.dialect c.args.text.now (record { output = text; ending = Positive })) (sym c.bytes.ensures)
+    (translated f c.in-Ok.ensures.formula made))
+    refl refl c.put_all.result c.put_all.ensures
 
-pub returns : goal.returns
-returns g c =
-    let f = tree c.in-Ok-read_formula.form in
-    let fault = subst (λ names. IfTooMany c.in-Err-translation_text.fault (IsFirstOver (length names) f most_classes)) c.in-Ok-read_formula.ensures.names c.in-Err-translation_text.ensures in
-    record {
-      performs = λ contents failed left reads.
-          subst (Performs needs_nothing (λ files rest. TranslateAnswers c.args.dialect c.args.text.now) ⊥ _ _) (sym c.limit_ending.ensures)
-          (limit-ends c.args.dialect c.args.text.now _ _ f c.in-Ok-read_formula.ensures.formula c.in-Err-translation_text.fault fault
-          (record { reads = refl; puts = refl; failed = refl }) refl);
-    }
+pub returns-in-Ok-translation_text-clause-silent : goal.returns-in-Ok-translation_text-clause-silent
+returns-in-Ok-translation_text-clause-silent g c none =
+    let f = tree c.in-Ok.read.0 in
+    absurd (translation-due c.args.dialect c.args.text.now f c.in-Ok.ensures.formula c.in-Ok-translation_text.text
+    (subst (λ names. IsTranslation names f c.in-Ok-translation_text.text) c.in-Ok.ensures.names c.in-Ok-translation_text.ensures) none)
+
+pub returns-clause-performs : goal.returns-clause-performs
+returns-clause-performs g c contents failed left reads =
+    let f = tree c.in-Ok.read.0 in
+    let fault = subst (λ names. IfTooMany c.in-Err-translation_text.fault (IsFirstOver (length names) f most_classes)) c.in-Ok.ensures.names c.in-Err-translation_text.ensures in
+    subst (Performs needs_nothing (λ files rest. TranslateAnswers c.args.dialect c.args.text.now) ⊥ _ _) (sym c.limit_ending.ensures)
+    (limit-ends c.args.dialect c.args.text.now _ _ f c.in-Ok.ensures.formula c.in-Err-translation_text.fault fault
+    (record { reads = refl; puts = refl; failed = refl }) refl)

@@ -1,16 +1,15 @@
-use Rattle.std.proofs.Common.{◌≡◌, ◌<◌, ◌≤◌, sym, refl, Some, arith, inl, inr, true, false}
+use Rattle.std.proofs.Common.{◌<◌, sym, arith}
+use Rattle.std.proofs.lemmas.Bool.Decides.{leb_tells}
 use Rattle.diagrams.specs.Eval.{tree}
-use Rattle.diagrams.specs.Live.{IsLive, Keeps}
-use Rattle.diagrams.specs.Work.{IsDone, same_work}
-use Rattle.diagrams.specs.Turned.{Turns, IsTurned, same_id}
+use Rattle.diagrams.specs.Transformed.{Transforms, IsTransformed, same_id}
 use Rattle.diagrams.specs.Folded.{IsExtreme}
 use Rattle.diagrams.proofs.Canon.{tree_size}
 use Rattle.diagrams.proofs.Meaning.{live-above, live_lasts, top_is, Keeps_trans}
 use Rattle.diagrams.proofs.Growth.{stands_lasts}
 use Rattle.diagrams.proofs.Kept.{kept_same, kept_learnt}
 use Rattle.diagrams.proofs.Works.{id_true}
-use Rattle.diagrams.proofs.Turned.{turned, all_turned_last, down, less_later}
-use Rattle.diagrams.proofs.Folded.{fold_terminal, fold_after, turns_joined, folds_cases}
+use Rattle.diagrams.proofs.Transformed.{turned, all_transformed_last, down, less_later}
+use Rattle.diagrams.proofs.Folded.{fold_terminal, fold_after, transforms_joined}
 use Rattle.diagrams.proofs.fold.+folded.Goals as goal
 
 pub returns-in-Terminal-clause-id : goal.returns-in-Terminal-clause-id
@@ -22,7 +21,7 @@ returns-in-Some-clause-id t c = (c.requires.right c.args.f c.in-Some.id (sym c.i
 
 pub returns-then-to-var-clause-id : goal.returns-then-to-var-clause-id
 returns-then-to-var-clause-id t c =
-    fold_after c.args.store.now c.args.op c.requires.op c.args.from c.args.to c.args.f c.in-Node.var c.if-to-var.true c.in-Node.ensures.shows.none_before c.requires.live
+    fold_after c.args.store.now c.args.op c.requires.op c.args.from c.args.to c.args.f c.in-Node.var c.if-to-var.true c.in-Node.ensures.expands.none_before c.requires.live
 
 pub folded-requires : goal.folded-requires
 folded-requires t c =
@@ -50,29 +49,29 @@ joined-requires-clause-hi_above t c =
 
 pub returns-in_err-id-in-Node-clause-right : goal.returns-in_err-id-in-Node-clause-right
 returns-in_err-id-in-Node-clause-right t c =
-    all_turned_last c.folded-in-Node.new.store c.joined.new.store c.joined.ensures.keeps (IsExtreme c.args.op c.args.from c.args.to) c.folded-in-Node.new.memo c.folded-in-Node.ensures.right
+    all_transformed_last c.folded-in-Node.new.store c.joined.new.store c.joined.ensures.keeps (IsExtreme c.args.op c.args.from c.args.to) c.folded-in-Node.new.memo c.folded-in-Node.ensures.right
 
 pub returns-in_err-keep-in-Node-clause-right : goal.returns-in_err-keep-in-Node-clause-right
 returns-in_err-keep-in-Node-clause-right t c =
-    kept_same same_id (IsTurned c.joined.new.store (IsExtreme c.args.op c.args.from c.args.to)) c.folded-in-Node.new.memo c.keep.new.self c.in_err-keep-in-Node.ensures.err
-    (all_turned_last c.folded-in-Node.new.store c.joined.new.store c.joined.ensures.keeps (IsExtreme c.args.op c.args.from c.args.to) c.folded-in-Node.new.memo c.folded-in-Node.ensures.right)
+    kept_same same_id (IsTransformed c.joined.new.store (IsExtreme c.args.op c.args.from c.args.to)) c.folded-in-Node.new.memo c.keep.new.self c.in_err-keep-in-Node.ensures.err
+    (all_transformed_last c.folded-in-Node.new.store c.joined.new.store c.joined.ensures.keeps (IsExtreme c.args.op c.args.from c.args.to) c.folded-in-Node.new.memo c.folded-in-Node.ensures.right)
 
 pub returns-in_ok-keep-in-Node-clause-id : goal.returns-in_ok-keep-in-Node-clause-id
 returns-in_ok-keep-in-Node-clause-id t c =
-    turns_joined c.args.store.now c.folded.new.store c.folded-in-Node.new.store c.joined.new.store
+    transforms_joined c.args.store.now c.folded.new.store c.folded-in-Node.new.store c.joined.new.store
     c.folded.ensures.keeps c.folded-in-Node.ensures.keeps c.joined.ensures.keeps c.args.op c.requires.op c.args.from c.args.to c.in-Node.var c.if-to-var.false c.args.f c.in-Node.lo c.in-Node.hi
-    c.in_ok-new_lo-in-Node.new_lo c.in_ok-new_hi-in-Node.new_hi c.in_ok-id-in-Node.id (top_is _ _ _ _ c.look.ensures.top c.in-Node.is) _ (folds_cases c.args.from c.in-Node.var)
+    c.in_ok-new_lo-in-Node.new_lo c.in_ok-new_hi-in-Node.new_hi c.in_ok-id-in-Node.id (top_is _ _ _ _ c.look.ensures.top c.in-Node.is) _ (leb_tells c.args.from c.in-Node.var)
     c.in_ok-new_lo-in-Node.ensures.id c.in_ok-new_hi-in-Node.ensures.id c.in_ok-id-in-Node.ensures.id
 
 pub returns-in_ok-keep-in-Node-clause-right : goal.returns-in_ok-keep-in-Node-clause-right
 returns-in_ok-keep-in-Node-clause-right t c =
     let k = Keeps_trans _ _ _ c.folded.ensures.keeps (Keeps_trans _ _ _ c.folded-in-Node.ensures.keeps c.joined.ensures.keeps) in
-    let given : Turns c.args.store.now c.joined.new.store (IsExtreme c.args.op c.args.from c.args.to) c.args.f c.in_ok-id-in-Node.id =
-    turns_joined c.args.store.now c.folded.new.store c.folded-in-Node.new.store c.joined.new.store
+    let given : Transforms c.args.store.now c.joined.new.store (IsExtreme c.args.op c.args.from c.args.to) c.args.f c.in_ok-id-in-Node.id =
+    transforms_joined c.args.store.now c.folded.new.store c.folded-in-Node.new.store c.joined.new.store
     c.folded.ensures.keeps c.folded-in-Node.ensures.keeps c.joined.ensures.keeps c.args.op c.requires.op c.args.from c.args.to c.in-Node.var c.if-to-var.false c.args.f c.in-Node.lo c.in-Node.hi
-    c.in_ok-new_lo-in-Node.new_lo c.in_ok-new_hi-in-Node.new_hi c.in_ok-id-in-Node.id (top_is _ _ _ _ c.look.ensures.top c.in-Node.is) _ (folds_cases c.args.from c.in-Node.var)
+    c.in_ok-new_lo-in-Node.new_lo c.in_ok-new_hi-in-Node.new_hi c.in_ok-id-in-Node.id (top_is _ _ _ _ c.look.ensures.top c.in-Node.is) _ (leb_tells c.args.from c.in-Node.var)
     c.in_ok-new_lo-in-Node.ensures.id c.in_ok-new_hi-in-Node.ensures.id c.in_ok-id-in-Node.ensures.id in
-    kept_learnt same_id id_true (IsTurned c.joined.new.store (IsExtreme c.args.op c.args.from c.args.to)) c.folded-in-Node.new.memo c.keep.new.self c.args.f c.in_ok-id-in-Node.id
-    (all_turned_last c.folded-in-Node.new.store c.joined.new.store c.joined.ensures.keeps (IsExtreme c.args.op c.args.from c.args.to) c.folded-in-Node.new.memo c.folded-in-Node.ensures.right)
+    kept_learnt same_id id_true (IsTransformed c.joined.new.store (IsExtreme c.args.op c.args.from c.args.to)) c.folded-in-Node.new.memo c.keep.new.self c.args.f c.in_ok-id-in-Node.id
+    (all_transformed_last c.folded-in-Node.new.store c.joined.new.store c.joined.ensures.keeps (IsExtreme c.args.op c.args.from c.args.to) c.folded-in-Node.new.memo c.folded-in-Node.ensures.right)
     (turned c.args.store.now c.joined.new.store k (IsExtreme c.args.op c.args.from c.args.to) c.args.f c.in_ok-id-in-Node.id c.requires.live given)
     c.in_ok-keep-in-Node.ensures.ok

@@ -1,23 +1,23 @@
 use Rattle.std.proofs.Common.{◌≡◌, ◌<◌, ◌≤◌, sym, refl, ap, subst, Some, arith}
 use Rattle.diagrams.specs.Eval.{tree, eval}
 use Rattle.diagrams.specs.Live.{IsLive, IsTruth, Keeps}
-use Rattle.diagrams.specs.Turned.{Turns, IsTurned, same_id}
+use Rattle.diagrams.specs.Transformed.{Transforms, IsTransformed, same_id}
 use Rattle.diagrams.specs.Picked.{IsLeastNumber, first_number}
 use Rattle.diagrams.proofs.Canon.{tree_size}
 use Rattle.diagrams.proofs.Meaning.{live-above, live_lasts, truth_lasts, top_is, Keeps_trans}
 use Rattle.diagrams.proofs.Growth.{stands_lasts}
 use Rattle.diagrams.proofs.Kept.{kept_same, kept_learnt}
 use Rattle.diagrams.proofs.Works.{id_true}
-use Rattle.diagrams.proofs.Turned.{turned, all_turned_last, turns_terminal_ok, turns_branch, down, down_truth, less_later}
+use Rattle.diagrams.proofs.Transformed.{turned, all_transformed_last, transforms_terminal_ok, transforms_branch, down, down_truth, less_later}
 use Rattle.diagrams.proofs.Picked.{number_local, picks_terminal, picks_node, node_window, below_down, below_lasts}
 use Rattle.diagrams.proofs.pick.+picked.Goals as goal
 
 pub returns-in-Terminal-clause-right : goal.returns-in-Terminal-clause-right
-returns-in-Terminal-clause-right t c = all_turned_last c.args.store.now c.made.new.self c.made.ensures.keeps (IsLeastNumber c.args.from c.args.to) c.args.memo.now c.requires.right
+returns-in-Terminal-clause-right t c = all_transformed_last c.args.store.now c.made.new.self c.made.ensures.keeps (IsLeastNumber c.args.from c.args.to) c.args.memo.now c.requires.right
 
 pub returns-in-Terminal-clause-id : goal.returns-in-Terminal-clause-id
 returns-in-Terminal-clause-id t c =
-    turns_terminal_ok c.made.result c.args.store.now c.made.new.self (IsLeastNumber c.args.from c.args.to) c.args.f 0
+    transforms_terminal_ok c.made.result c.args.store.now c.made.new.self (IsLeastNumber c.args.from c.args.to) c.args.f 0
     (picks_terminal c.args.store.now c.look.ensures.canonical c.args.from c.args.to c.args.f _ (top_is _ _ _ _ c.look.ensures.top c.in-Terminal.is) c.requires.range c.requires.f) c.made.ensures.id
 
 pub least_number-number-requires-clause-vars : goal.least_number-number-requires-clause-vars
@@ -25,11 +25,11 @@ least_number-number-requires-clause-vars t c =
     node_window c.args.store.now c.look.ensures.canonical c.args.from c.args.to c.args.f c.in-Node.lo c.in-Node.hi c.in-Node.var (top_is _ _ _ _ c.look.ensures.top c.in-Node.is) c.if-from-var.true c.requires.few c.requires.f.live c.requires.below
 
 pub returns-then-from-var-clause-right : goal.returns-then-from-var-clause-right
-returns-then-from-var-clause-right t c = all_turned_last c.args.store.now c.made-then-from-var.new.self c.made-then-from-var.ensures.keeps (IsLeastNumber c.args.from c.args.to) c.args.memo.now c.requires.right
+returns-then-from-var-clause-right t c = all_transformed_last c.args.store.now c.made-then-from-var.new.self c.made-then-from-var.ensures.keeps (IsLeastNumber c.args.from c.args.to) c.args.memo.now c.requires.right
 
 pub returns-then-from-var-clause-id : goal.returns-then-from-var-clause-id
 returns-then-from-var-clause-id t c =
-    turns_terminal_ok c.made-then-from-var.result c.args.store.now c.made-then-from-var.new.self (IsLeastNumber c.args.from c.args.to) c.args.f c.least_number-number.result
+    transforms_terminal_ok c.made-then-from-var.result c.args.store.now c.made-then-from-var.new.self (IsLeastNumber c.args.from c.args.to) c.args.f c.least_number-number.result
     (λ a. subst (λ x. IsLeastNumber c.args.from c.args.to (eval c.args.store.now c.args.f) a x) (sym c.least_number-number.ensures)
     (picks_node c.args.store.now c.look.ensures.canonical c.args.from c.args.to c.args.f c.in-Node.lo c.in-Node.hi c.in-Node.var (top_is _ _ _ _ c.look.ensures.top c.in-Node.is) c.if-from-var.true c.requires.range c.requires.f c.requires.below a))
     c.made-then-from-var.ensures.id
@@ -64,16 +64,16 @@ branch-store-requires-clause-hi_above t c =
     c.in_ok-new_hi-in-Node.ensures.id.above _ (stands_lasts _ _ c.picked.ensures.keeps.extends _ _ d.hi_above)
 
 pub returns-in_err-id-in-Node-clause-right : goal.returns-in_err-id-in-Node-clause-right
-returns-in_err-id-in-Node-clause-right t c = all_turned_last c.picked-in-Node.new.store c.branch-store.new.self c.branch-store.ensures.keeps (IsLeastNumber c.args.from c.args.to) c.picked-in-Node.new.memo c.picked-in-Node.ensures.right
+returns-in_err-id-in-Node-clause-right t c = all_transformed_last c.picked-in-Node.new.store c.branch-store.new.self c.branch-store.ensures.keeps (IsLeastNumber c.args.from c.args.to) c.picked-in-Node.new.memo c.picked-in-Node.ensures.right
 
 pub returns-in_err-keep-in-Node-clause-right : goal.returns-in_err-keep-in-Node-clause-right
 returns-in_err-keep-in-Node-clause-right t c =
-    kept_same same_id (IsTurned c.branch-store.new.self (IsLeastNumber c.args.from c.args.to)) c.picked-in-Node.new.memo c.keep.new.self c.in_err-keep-in-Node.ensures.err
-    (all_turned_last c.picked-in-Node.new.store c.branch-store.new.self c.branch-store.ensures.keeps (IsLeastNumber c.args.from c.args.to) c.picked-in-Node.new.memo c.picked-in-Node.ensures.right)
+    kept_same same_id (IsTransformed c.branch-store.new.self (IsLeastNumber c.args.from c.args.to)) c.picked-in-Node.new.memo c.keep.new.self c.in_err-keep-in-Node.ensures.err
+    (all_transformed_last c.picked-in-Node.new.store c.branch-store.new.self c.branch-store.ensures.keeps (IsLeastNumber c.args.from c.args.to) c.picked-in-Node.new.memo c.picked-in-Node.ensures.right)
 
 pub returns-in_ok-keep-in-Node-clause-id : goal.returns-in_ok-keep-in-Node-clause-id
 returns-in_ok-keep-in-Node-clause-id t c =
-    turns_branch c.args.store.now c.picked.new.store c.picked-in-Node.new.store c.branch-store.new.self
+    transforms_branch c.args.store.now c.picked.new.store c.picked-in-Node.new.store c.branch-store.new.self
     c.picked.ensures.keeps c.picked-in-Node.ensures.keeps c.branch-store.ensures.keeps (IsLeastNumber c.args.from c.args.to) c.in-Node.var (number_local c.args.from c.args.to c.in-Node.var c.if-from-var.false) c.args.f c.in-Node.lo c.in-Node.hi
     c.in_ok-new_lo-in-Node.new_lo c.in_ok-new_hi-in-Node.new_hi c.in_ok-id-in-Node.id (top_is _ _ _ _ c.look.ensures.top c.in-Node.is)
     c.in_ok-new_lo-in-Node.ensures.id c.in_ok-new_hi-in-Node.ensures.id c.in_ok-id-in-Node.ensures.id
@@ -81,12 +81,12 @@ returns-in_ok-keep-in-Node-clause-id t c =
 pub returns-in_ok-keep-in-Node-clause-right : goal.returns-in_ok-keep-in-Node-clause-right
 returns-in_ok-keep-in-Node-clause-right t c =
     let k = Keeps_trans _ _ _ c.picked.ensures.keeps (Keeps_trans _ _ _ c.picked-in-Node.ensures.keeps c.branch-store.ensures.keeps) in
-    let given : Turns c.args.store.now c.branch-store.new.self (IsLeastNumber c.args.from c.args.to) c.args.f c.in_ok-id-in-Node.id =
-    turns_branch c.args.store.now c.picked.new.store c.picked-in-Node.new.store c.branch-store.new.self
+    let given : Transforms c.args.store.now c.branch-store.new.self (IsLeastNumber c.args.from c.args.to) c.args.f c.in_ok-id-in-Node.id =
+    transforms_branch c.args.store.now c.picked.new.store c.picked-in-Node.new.store c.branch-store.new.self
     c.picked.ensures.keeps c.picked-in-Node.ensures.keeps c.branch-store.ensures.keeps (IsLeastNumber c.args.from c.args.to) c.in-Node.var (number_local c.args.from c.args.to c.in-Node.var c.if-from-var.false) c.args.f c.in-Node.lo c.in-Node.hi
     c.in_ok-new_lo-in-Node.new_lo c.in_ok-new_hi-in-Node.new_hi c.in_ok-id-in-Node.id (top_is _ _ _ _ c.look.ensures.top c.in-Node.is)
     c.in_ok-new_lo-in-Node.ensures.id c.in_ok-new_hi-in-Node.ensures.id c.in_ok-id-in-Node.ensures.id in
-    kept_learnt same_id id_true (IsTurned c.branch-store.new.self (IsLeastNumber c.args.from c.args.to)) c.picked-in-Node.new.memo c.keep.new.self c.args.f c.in_ok-id-in-Node.id
-    (all_turned_last c.picked-in-Node.new.store c.branch-store.new.self c.branch-store.ensures.keeps (IsLeastNumber c.args.from c.args.to) c.picked-in-Node.new.memo c.picked-in-Node.ensures.right)
+    kept_learnt same_id id_true (IsTransformed c.branch-store.new.self (IsLeastNumber c.args.from c.args.to)) c.picked-in-Node.new.memo c.keep.new.self c.args.f c.in_ok-id-in-Node.id
+    (all_transformed_last c.picked-in-Node.new.store c.branch-store.new.self c.branch-store.ensures.keeps (IsLeastNumber c.args.from c.args.to) c.picked-in-Node.new.memo c.picked-in-Node.ensures.right)
     (turned c.args.store.now c.branch-store.new.self k (IsLeastNumber c.args.from c.args.to) c.args.f c.in_ok-id-in-Node.id c.requires.f.live given)
     c.in_ok-keep-in-Node.ensures.ok

@@ -2,11 +2,11 @@ use Rattle.std.proofs.Common.{◌≡◌, ◌<◌, ◌∙◌, sym, refl, ap, arit
 use Rattle.std.specs.HashSet as set
 use Rattle.std.proofs.lemmas.Result.{on_ok_weaker}
 use Rattle.diagrams.specs.Eval.{tree}
-use Rattle.diagrams.specs.Turned.{same_id}
-use Rattle.diagrams.specs.Terminals.{leaves, with_new, IsGathered}
+use Rattle.diagrams.specs.Transformed.{same_id}
+use Rattle.diagrams.specs.Terminals.{terminals_of, with_new, IsGathered}
 use Rattle.diagrams.proofs.Canon.{tree_size}
 use Rattle.diagrams.proofs.Meaning.{top_is, live-above}
-use Rattle.diagrams.proofs.Turned.{down}
+use Rattle.diagrams.proofs.Transformed.{down}
 use Rattle.diagrams.proofs.Gathers.{gather_terminal, gathered_terminal, gather_node, gathered_node, gather_seen}
 use Rattle.diagrams.proofs.terminals.+gather.Goals as goal
 

@@ -12,10 +12,10 @@ pub returns-clause-steps : goal.returns-clause-steps
 returns-clause-steps c =
     let s = c.args.store.now in
     let t = c.args.automaton.now in
-    let g = c.args.partition.now in
+    let g = c.args.refinement.now in
     let is = dedup_is _ _ _ c.dedup.ensures.filtered in
     let moved = c.sort_unstable.ensures.permutation in
-    steps_moved s.props (moves_of s t) g.blocks.items c.args.next.now g.words (size_of t) 0 c.in_ok-steps.steps.items c.dedup.new.self.items
+    steps_moved s.props (moves_of s t) g.blocks.items c.args.next.now g.words (size_of t) c.in_ok-steps.steps.items c.dedup.new.self.items
     (λ x h. rw is (Contains-dedup eq_laws.laws-law step_same _ x (Contains-permutation _ _ x moved h)))
     (λ x h. Contains-permutation _ _ x (IsPermutation-sym _ _ moved) (Contains-from_dedup _ _ x (rw is at h)))
     c.in_ok-steps.ensures

@@ -1,6 +1,5 @@
-use Rattle.automata.specs.Table.{moves_of}
-use Rattle.distinguish.specs.Steps.{AreSteps}
+use Rattle.distinguish.specs.Trees.{IsTree}
 use Rattle.distinguish.proofs.steps.steps_of.Given as goal
 
 abbrev pub invariant-loop-at : goal.invariant-loop-at
-invariant-loop-at l = AreSteps l.store.props (moves_of l.store l.automaton) l.partition.blocks.items l.next l.partition.words l.at 0 l.steps.items
+invariant-loop-at l = IsTree l.store l.automaton l.refinement l.next l.at l.tree

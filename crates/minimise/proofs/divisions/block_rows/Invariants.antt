@@ -1,12 +1,12 @@
 use Rattle.diagrams.specs.Kept.{AllKept}
 use Rattle.diagrams.specs.Live.{Keeps}
-use Rattle.diagrams.specs.Turned.{IsTurned, IsItem, same_id}
+use Rattle.diagrams.specs.Transformed.{IsTransformed, IsTableItem, same_id}
 use Rattle.minimise.specs.Divisions.{AreBlockRows}
 use Rattle.minimise.proofs.divisions.block_rows.Given as goal
 
 abbrev pub invariant-loop-at : goal.invariant-loop-at
 invariant-loop-at l = record {
   keeps : Keeps l.fn.store l.store;
-  right : AllKept same_id (IsTurned l.store (IsItem l.blocks)) l.memo;
+  right : AllKept same_id (IsTransformed l.store (IsTableItem l.blocks)) l.memo;
   rows : AreBlockRows l.fn.store l.store l.automaton l.blocks l.rows.items l.at;
 }

@@ -9,14 +9,14 @@ pub renewed-requires-clause-old : goal.renewed-requires-clause-old
 renewed-requires-clause-old c =
     let t = c.args.automaton.now in
     let within : c.loop-at.at < size_of t = omega (arith, c.loop-at-test.true, c.size-at-end.ensures.size) in
-    old_row c.args.store.now c.loop-at.store c.loop-at.invariant.keeps t c.args.old.now c.args.rows.now c.loop-at.at _ c.row-in-loop-at.result c.requires.fits c.requires.rows within refl c.row-in-loop-at.ensures
+    old_row c.args.store.now c.loop-at.store c.loop-at.invariant.keeps t c.args.old.now c.args.rows.now c.loop-at.at _ c.row.result c.requires.fits c.requires.rows within refl c.row.ensures
 
 pub renewed-requires-clause-targets : goal.renewed-requires-clause-targets
 renewed-requires-clause-targets c =
     let t = c.args.automaton.now in
     let at = c.loop-at.at in
     let within : at < size_of t = omega (arith, c.loop-at-test.true, c.size-at-end.ensures.size) in
-    rw (c.of.ensures, c.row-in-loop-at.ensures, c.requires.old)
+    rw (c.of.ensures, c.row.ensures, c.requires.old)
     (targets_last c.args.store.now c.loop-at.store c.loop-at.invariant.keeps (size_of t) (row_of t at) (targets_at c.args.targets.now at) (c.requires.fits at within).live (c.requires.targets at within))
 
 pub loop-at-preserved : goal.loop-at-preserved
@@ -27,6 +27,6 @@ loop-at-preserved c =
       keeps = Keeps_trans c.args.store.now c.loop-at.store c.renewed.new.store c.loop-at.invariant.keeps c.in_ok-row.ensures.keeps;
       right = c.in_ok-row.ensures.right;
       rows = rw (c.in_ok-push.ensures.items)
-          (rows_more c.args.store.now c.loop-at.store c.renewed.new.store t c.args.new.now c.loop-at.after.items c.loop-at.at c.row-in-loop-at.result c.in_ok-row.row
-          c.loop-at.invariant.keeps c.in_ok-row.ensures.keeps c.requires.fits within c.loop-at.invariant.rows c.row-in-loop-at.ensures c.in_ok-row.ensures.row);
+          (rows_more c.args.store.now c.loop-at.store c.renewed.new.store t c.args.new.now c.loop-at.after.items c.loop-at.at c.row.result c.in_ok-row.row
+          c.loop-at.invariant.keeps c.in_ok-row.ensures.keeps c.requires.fits within c.loop-at.invariant.rows c.row.ensures c.in_ok-row.ensures.row);
     }

@@ -1,4 +1,4 @@
-use Rattle.std.proofs.Common.{◌≡◌, ◌<◌, ℕ, List, arith, sym, ◌∙◌, ap, subst, length, map}
+use Rattle.std.proofs.Common.{◌≡◌, ◌<◌, arith, sym, ◌∙◌, ap, subst, length, map}
 use Rattle.std.specs.Prelude.{slice_index, IfOk}
 use Rattle.std.proofs.lemmas.List.{get_or_read}
 use Rattle.diagrams.proofs.Meaning.{Keeps_trans}
@@ -15,9 +15,9 @@ merge-requires c =
     let kinds = c.in_ok-partition.partition.kinds.keys in
     let r = c.in_ok-partition.ensures.refined in
     let first : t.first < size_of t = subst (λ z. z < size_of t) c.first.ensures.first c.first.ensures.within in
-    let long : c.first-2.result < length blocks = omega (arith, r.partition.size, c.first-2.ensures.within) in
+    let long : c.first.result < length blocks = omega (arith, r.partition.size, c.first.ensures.within) in
     let block : c.index-first.result.now ≡ slice_index blocks t.first =
-    get_or_read blocks c.first-2.result c.index-first.result.now long c.index-first.ensures 0 ∙ ap (slice_index blocks) c.first-2.ensures.first in
+    get_or_read blocks c.first.result c.index-first.result.now long c.index-first.ensures 0 ∙ ap (slice_index blocks) c.first.ensures.first in
     let slice : length c.as_slice.result.now ≡ length kinds = ap length c.as_slice.ensures.keys in
     let few = partition_few r.keys blocks kinds (size_of t) r.partition in
     let size : size_of t ≡ length c.automaton.inside.rows.items = ap (λ z. size_of z) (sym c.automaton.view_is) in
@@ -35,9 +35,9 @@ renumber-requires c =
     let blocks = c.in_ok-partition.partition.blocks.items in
     let kinds = c.in_ok-partition.partition.kinds.keys in
     let r = c.in_ok-partition.ensures.refined in
-    let long : c.first-2.result < length blocks = omega (arith, r.partition.size, c.first-2.ensures.within) in
+    let long : c.first.result < length blocks = omega (arith, r.partition.size, c.first.ensures.within) in
     let block : q.first ≡ slice_index blocks t.first =
-    c.in_ok-merged.ensures.first ∙ get_or_read blocks c.first-2.result c.index-first.result.now long c.index-first.ensures 0 ∙ ap (slice_index blocks) c.first-2.ensures.first in
+    c.in_ok-merged.ensures.first ∙ get_or_read blocks c.first.result c.index-first.result.now long c.index-first.ensures 0 ∙ ap (slice_index blocks) c.first.ensures.first in
     let marks = c.in_ok-merged.ensures.marks ∙ ap (map (λ x. x.mark)) c.as_slice.ensures.keys in
     let rows = c.in_ok-merged.ensures.rows ∙ ap (map (λ x. x.row)) c.as_slice.ensures.keys in
     record { fits = merged_fits s n t q blocks kinds c.requires.fits c.in_ok-partition.ensures.keeps r block marks rows }
@@ -54,9 +54,9 @@ returns c =
     let r = c.in_ok-partition.ensures.refined in
     let keeps = c.in_ok-partition.ensures.keeps in
     let first : t.first < size_of t = subst (λ z. z < size_of t) c.first.ensures.first c.first.ensures.within in
-    let long : c.first-2.result < length blocks = omega (arith, r.partition.size, c.first-2.ensures.within) in
+    let long : c.first.result < length blocks = omega (arith, r.partition.size, c.first.ensures.within) in
     let block : q.first ≡ slice_index blocks t.first =
-    c.in_ok-merged.ensures.first ∙ get_or_read blocks c.first-2.result c.index-first.result.now long c.index-first.ensures 0 ∙ ap (slice_index blocks) c.first-2.ensures.first in
+    c.in_ok-merged.ensures.first ∙ get_or_read blocks c.first.result c.index-first.result.now long c.index-first.ensures 0 ∙ ap (slice_index blocks) c.first.ensures.first in
     let marks = c.in_ok-merged.ensures.marks ∙ ap (map (λ x. x.mark)) c.as_slice.ensures.keys in
     let rows = c.in_ok-merged.ensures.rows ∙ ap (map (λ x. x.row)) c.as_slice.ensures.keys in
     let fits = merged_fits s n t q blocks kinds c.requires.fits keeps r block marks rows in

@@ -16,8 +16,8 @@ loop-init c =
     let blocks = c.in_ok-blocks.blocks.items in
     let rows = c.in_ok-rows.rows.items in
     let zeros = c.in_ok-blocks.ensures in
-    let long : length blocks ≡ size_of t = ap length zeros ∙ length-zeros c.size.result ∙ c.size.ensures.size in
-    settling_begins s n t blocks rows c.in_ok-rows.ensures.keeps c.requires.fits long (λ i h. ap (λ xs. slice_index xs i) zeros ∙ replicate-zero c.size.result i)
+    let long : length blocks ≡ size_of t = ap length zeros ∙ length-zeros c.size-2.result ∙ c.size-2.ensures.size in
+    settling_begins s n t blocks rows c.in_ok-rows.ensures.keeps c.requires.fits long (λ i h. ap (λ xs. slice_index xs i) zeros ∙ replicate-zero c.size-2.result i)
     (subst (λ bs. AreBlockRows s n t bs rows (size_of t)) c.deref.ensures.value c.in_ok-rows.ensures.rows)
 
 pub renewed_rows-requires-clause-fits : goal.renewed_rows-requires-clause-fits

@@ -1,9 +1,9 @@
 use Rattle.std.proofs.Common.{◌<◌, length, sym, arith}
 use Rattle.diagrams.specs.Eval.{tree}
-use Rattle.diagrams.specs.Turned.{same_id}
+use Rattle.diagrams.specs.Transformed.{same_id}
 use Rattle.diagrams.proofs.Canon.{tree_size}
 use Rattle.diagrams.proofs.Meaning.{top_is, Keeps_trans}
-use Rattle.diagrams.proofs.Turned.{less_later, terminal_fit}
+use Rattle.diagrams.proofs.Transformed.{less_later, terminal_fit}
 use Rattle.diagrams.proofs.Kept.{kept_same, kept_learnt}
 use Rattle.diagrams.proofs.Works.{id_true}
 use Rattle.automata.proofs.Lasts.{row_lasts}

@@ -10,7 +10,7 @@ overflow_add-first-in-loop-k c =
 
 pub combine-requires-clause-fit : goal.combine-requires-clause-fit
 combine-requires-clause-fit c =
-    can_ask c.loop-k.store c.literal.new.store c.literal.ensures.keeps c.args.base c.args.size (c.props.result + c.args.base + slice_index_or c.args.ats.now (c.loop-k.k - 1) 0) (drop c.loop-k.k c.args.ats.now)
+    can_ask c.loop-k.store c.literal.new.self c.literal.ensures.keeps c.args.base c.args.size (c.props.result + c.args.base + slice_index_or c.args.ats.now (c.loop-k.k - 1) 0) (drop c.loop-k.k c.args.ats.now)
     c.in_ok-next.next c.loop-k.whole c.in_ok-next.ensures.id c.loop-k.invariant.asks
 
 pub loop-k-preserved : goal.loop-k-preserved
@@ -24,6 +24,6 @@ loop-k-preserved c =
       keeps = Keeps_trans _ _ _ c.loop-k.invariant.keeps (Keeps_trans _ _ _ c.literal.ensures.keeps c.combine.ensures.keeps);
       first = rw (q, p) e;
       asks = rw (drop_back c.loop-k.k c.args.ats.now (omega arith) (omega arith))
-          (asks_next c.loop-k.store c.literal.new.store c.combine.new.self c.literal.ensures.keeps c.combine.ensures.keeps c.args.base c.args.size (c.props.result + c.args.base + at) at (drop c.loop-k.k c.args.ats.now)
+          (asks_next c.loop-k.store c.literal.new.self c.combine.new.self c.literal.ensures.keeps c.combine.ensures.keeps c.args.base c.args.size (c.props.result + c.args.base + at) at (drop c.loop-k.k c.args.ats.now)
           c.in_ok-next.next c.loop-k.whole _ (below_at c.args.size c.args.ats.now (c.loop-k.k - 1) c.requires.within l) (omega (arith, e)) c.in_ok-next.ensures.id c.loop-k.invariant.asks c.in_ok-whole-2.ensures.id);
     }

@@ -2,10 +2,10 @@ use Rattle.std.proofs.Common.{◌<◌, sym, arith}
 use Rattle.diagrams.specs.Eval.{tree}
 use Rattle.diagrams.proofs.Canon.{tree_size}
 use Rattle.diagrams.proofs.Meaning.{top_is, Keeps_trans}
-use Rattle.diagrams.proofs.Turned.{less_later}
+use Rattle.diagrams.proofs.Transformed.{less_later}
 use Rattle.diagrams.proofs.Kept.{kept_same, kept_learnt}
 use Rattle.diagrams.proofs.Works.{id_true}
-use Rattle.diagrams.specs.Turned.{same_id}
+use Rattle.diagrams.specs.Transformed.{same_id}
 use Rattle.obligations.specs.Located.{Cuts, IsCut}
 use Rattle.obligations.proofs.Holds.{body_lasts}
 use Rattle.obligations.proofs.Cuts.{claim_terminal, claim_node, walks_down, cuts_children, cuts_node, cuts_now, claims_last, kept_cut_lasts, grows_refl}

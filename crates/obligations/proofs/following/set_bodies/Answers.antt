@@ -10,7 +10,7 @@ use Rattle.obligations.proofs.following.set_bodies.Goals as goal
 pub entered-requires-clause-f : goal.entered-requires-clause-f
 entered-requires-clause-f c =
     let h : c.loop-at.at < size_of c.args.automaton.now = omega arith in
-    rw (c.row-in-loop-at.ensures, c.requires.each) (fits_lasts c.args.store.now c.loop-at.store c.loop-at.invariant.setting.keeps c.args.automaton.now c.requires.fits c.loop-at.at h)
+    rw (c.row.ensures, c.requires.each) (fits_lasts c.args.store.now c.loop-at.store c.loop-at.invariant.setting.keeps c.args.automaton.now c.requires.fits c.loop-at.at h)
 
 pub entered-requires-clause-items : goal.entered-requires-clause-items
 entered-requires-clause-items c =
@@ -28,6 +28,6 @@ loop-at-preserved c =
           (setting_next c.args.store.now c.loop-at.store c.entered.new.store c.args.cells.now c.loop-at.cells c.args.automaton.now c.args.base c.args.items.now c.loop-at.at c.in_ok-body.body c.loop-at.invariant.setting
           c.entered.ensures.keeps c.requires.fits c.requires.each c.requires.count h c.requires.items
           (claims_last c.args.store.now c.loop-at.store c.loop-at.invariant.setting.keeps (length c.args.cells.now) c.args.items.now c.requires.items)
-          (rw c.row-in-loop-at.ensures at c.in_ok-body.ensures.body));
+          (rw c.row.ensures at c.in_ok-body.ensures.body));
       right = c.entered.ensures.right;
     }

@@ -1,5 +1,5 @@
 use Rattle.diagrams.specs.Kept.{AllKept}
-use Rattle.diagrams.specs.Turned.{same_id}
+use Rattle.diagrams.specs.Transformed.{same_id}
 use Rattle.obligations.specs.Entered.{IsEntered}
 use Rattle.obligations.proofs.Stands.{IsSetting}
 use Rattle.obligations.proofs.following.set_bodies.Given as goal

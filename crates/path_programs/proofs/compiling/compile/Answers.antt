@@ -3,7 +3,8 @@ use Rattle.std.specs.Prelude.{◌&&◌, ◌||◌}
 use Rattle.forms.specs.Tree.{program}
 use Rattle.diagrams.specs.declared.top.Id.{Id}
 use Rattle.diagrams.specs.Live.{Keeps}
-use Rattle.path_programs.specs.Made.{test, IsOneWhere}
+use Rattle.diagrams.specs.Eval.{is_one}
+use Rattle.path_programs.specs.Made.{IsOneWhere}
 use Rattle.path_programs.specs.Growth.{HasGrown}
 use Rattle.diagrams.proofs.Meaning.{Keeps_trans, truth_lasts}
 use Rattle.obligations.specs.Table.{ends_of, body_of}
@@ -66,10 +67,10 @@ there : (c : goal.After-add) → c.args.then < length c.walk.new.cells
 there c = let h = c.walk.ensures.grown.grows.longer in let k = c.requires.then in omega (arith, h, k)
 
 whole : (c : goal.After-add) → IsOneWhere c.either.new.store c.in_ok-body.body
-    (λ a. test c.walk.new.store c.in_ok-lead.lead.further a || test c.walk.new.store c.in_ok-lead.lead.stays a && test c.walk.new.store (body_of c.walk.new.cells c.args.then) a)
+    (λ a. is_one c.walk.new.store c.in_ok-lead.lead.further a || is_one c.walk.new.store c.in_ok-lead.lead.stays a && is_one c.walk.new.store (body_of c.walk.new.cells c.args.then) a)
 whole c =
     let P : Id → Type 0 = λ i. IsOneWhere c.either.new.store c.in_ok-body.body
-    (λ a. test c.walk.new.store c.in_ok-lead.lead.further a || test c.walk.new.store c.in_ok-lead.lead.stays a && test c.walk.new.store i a) in
+    (λ a. is_one c.walk.new.store c.in_ok-lead.lead.further a || is_one c.walk.new.store c.in_ok-lead.lead.stays a && is_one c.walk.new.store i a) in
     subst P c.body.ensures (whole_says c.walk.new.store c.both.new.store c.either.new.store c.both.ensures.keeps c.either.ensures.keeps c.in_ok-lead.lead c.body.result c.in_ok-here.here c.in_ok-body.body
     c.in_ok-lead.ensures.bodies.further.live c.in_ok-here.ensures.id c.in_ok-body.ensures.id)
 

@@ -1,6 +1,7 @@
 use Rattle.std.proofs.Common.{◌≡◌, ℕ, ◌<◌, ◌-◌, ◌*◌, List, length, refl, sym, subst, arith}
 use Rattle.std.proofs.lemmas.Result.{IfOk-weaker}
 use Rattle.forms.specs.Tree.{Formula, Program, tree, program, program_nodes, Step, Test, Choice, Seq}
+use Rattle.forms.specs.Proper.{IsProper}
 use Rattle.diagrams.specs.declared.top.Id.{Id}
 use Rattle.diagrams.proofs.Meaning.{Keeps_trans, truth_lasts}
 use Rattle.std.specs.Prelude.{slice_index_or}
@@ -9,7 +10,7 @@ use Rattle.automata.specs.Table.{size_of, IsMeant}
 use Rattle.obligations.specs.declared.cells.Obligation.{Obligation}
 use Rattle.obligations.specs.Value.{IsClaim}
 use Rattle.obligations.proofs.Holds.{claim_lasts, body_lasts}
-use Rattle.path_programs.specs.Tests.{test_count}
+use Rattle.path_programs.specs.PathTests.{test_count}
 use Rattle.path_programs.specs.Lead.{AreBodies, IsLead, IsEither, IsInTurn}
 use Rattle.path_programs.proofs.Making.{body_truth, claim_more}
 use Rattle.path_programs.proofs.Growing.{grown_keeps, grown_same, grown_store, grown_trans, grown_set}
@@ -171,9 +172,9 @@ walk-returns-in-Test-clause-lead t c =
     let m : Meant = slice_index_or c.args.tests.now (c.args.untaken.now - 1) c.index-tests-untaken.result in
     let own = rw e at c.requires.tests in
     IfOk-weaker c.test.result
-    (λ l. (f : Formula) (later : Id) → (m.automaton.first < size_of m.automaton → IsMeant c.args.store.now m.automaton f) → IsLead c.test.new.store (length c.args.cells.now) c.test.new.cells (Test f) later l)
+    (λ l. (f : Formula) (later : Id) → IsProper c.args.store.now.props f → (m.automaton.first < size_of m.automaton → IsMeant c.args.store.now m.automaton f) → IsLead c.test.new.store (length c.args.cells.now) c.test.new.cells (Test f) later l)
     (IsLead c.test.new.store (length c.args.cells.now) c.test.new.cells (program c.args.path.now) c.args.later)
     (λ l h.
     let P : Program → Type 0 = λ x. IsLead c.test.new.store (length c.args.cells.now) c.test.new.cells x c.args.later l in
-    subst P (sym e) (h f c.args.later (own.1.meant c.index-tests-untaken.result)))
+    subst P (sym e) (h f c.args.later (rw e at c.requires.proper) (own.1.meant c.index-tests-untaken.result)))
     c.test.ensures.lead

@@ -10,8 +10,8 @@ loop-i-preserved c =
     let v = c.loop-i.invariant in
     let t = turns-more _ _ _ _ _ _ _ _ _ _ c.index.result.now _ s v.within v.whole v.left v.done v.next v.followed (ap (λ x. c.loop-i.next || x) c.index.ensures) c.follow-lead.ensures.lead c.follow-lead.ensures.followed in
     record {
-      within = omega (arith, length-set c.loop-i.ahead.items (c.loop-i.i - 1) c.follow-lead.result.ahead);
-      whole = length-set c.loop-i.ahead.items (c.loop-i.i - 1) c.follow-lead.result.ahead ∙ v.whole;
+      within = omega (arith, length-set c.loop-i.further.items (c.loop-i.i - 1) c.follow-lead.result.further);
+      whole = length-set c.loop-i.further.items (c.loop-i.i - 1) c.follow-lead.result.further ∙ v.whole;
       left = left-fewer _ _ _ _ _ s v.left;
       done = t.0;
       next = t.1;

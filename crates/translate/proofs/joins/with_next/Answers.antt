@@ -2,26 +2,26 @@ use Rattle.std.proofs.Common.{◌+◌, subst}
 use Rattle.diagrams.specs.Live.{Means}
 use Rattle.diagrams.proofs.Meaning.{live_lasts}
 use Rattle.obligations.proofs.Holds.{body_lasts}
-use Rattle.translate.specs.Joined.{literal_value}
+use Rattle.diagrams.specs.Eval.{literal_value}
 use Rattle.translate.proofs.JoinLemmas.{can_join, next_body, next_says, literal_truth}
 use Rattle.translate.proofs.joins.with_next.Goals as goal
 
 pub combine-requires : goal.combine-requires
 combine-requires c = record {
-  f_live = live_lasts c.args.store.now c.variable.new.store c.variable.ensures.keeps.extends c.args.now c.requires.now.live;
-  g_live = c.in_ok-next.ensures.value.live;
+  f_live = live_lasts c.args.store.now c.literal.new.self c.literal.ensures.keeps.extends c.args.now c.requires.now.live;
+  g_live = c.in_ok-next.ensures.id.live;
   fit =
-      can_join c.variable.new.store c.args.op c.requires.op c.args.now c.in_ok-next.next
-      (body_lasts c.args.store.now c.variable.new.store c.variable.ensures.keeps c.args.own c.args.now c.requires.now).truth
-      (literal_truth c.variable.new.store _ c.in_ok-next.next c.in_ok-next.ensures.value);
+      can_join c.literal.new.self c.args.op c.requires.op c.args.now c.in_ok-next.next
+      (body_lasts c.args.store.now c.literal.new.self c.literal.ensures.keeps c.args.own c.args.now c.requires.now).truth
+      (literal_truth c.literal.new.self _ c.in_ok-next.next c.in_ok-next.ensures.id);
 }
 
 pub returns-clause-body : goal.returns-clause-body
 returns-clause-body c =
-    let next = subst (λ p. Means c.variable.new.store c.in_ok-next.next (literal_value (p + c.args.own))) c.props-props.ensures.number c.in_ok-next.ensures.value in
-    next_body c.combine.result c.args.store.now c.variable.new.store c.combine.new.self c.variable.ensures.keeps c.combine.ensures.keeps c.args.op c.requires.op c.args.now c.in_ok-next.next c.args.own c.requires.now next c.combine.ensures.id
+    let next = subst (λ p. Means c.literal.new.self c.in_ok-next.next (literal_value (p + c.args.own))) c.props-props.ensures.number c.in_ok-next.ensures.id in
+    next_body c.combine.result c.args.store.now c.literal.new.self c.combine.new.self c.literal.ensures.keeps c.combine.ensures.keeps c.args.op c.requires.op c.args.now c.in_ok-next.next c.args.own c.requires.now next c.combine.ensures.id
 
 pub returns-clause-says : goal.returns-clause-says
 returns-clause-says c =
-    let next = subst (λ p. Means c.variable.new.store c.in_ok-next.next (literal_value (p + c.args.own))) c.props-props.ensures.number c.in_ok-next.ensures.value in
-    next_says c.combine.result c.args.store.now c.variable.new.store c.combine.new.self c.variable.ensures.keeps c.combine.ensures.keeps c.args.op c.requires.op c.args.now c.in_ok-next.next c.args.own c.requires.now next c.combine.ensures.id
+    let next = subst (λ p. Means c.literal.new.self c.in_ok-next.next (literal_value (p + c.args.own))) c.props-props.ensures.number c.in_ok-next.ensures.id in
+    next_says c.combine.result c.args.store.now c.literal.new.self c.combine.new.self c.literal.ensures.keeps c.combine.ensures.keeps c.args.op c.requires.op c.args.now c.in_ok-next.next c.args.own c.requires.now next c.combine.ensures.id

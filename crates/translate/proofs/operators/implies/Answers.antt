@@ -4,7 +4,7 @@ use Rattle.diagrams.proofs.Meaning.{Keeps_trans, means_lasts}
 use Rattle.obligations.specs.Value.{cell}
 use Rattle.obligations.proofs.Holds.{fits_cells_lasts}
 use Rattle.translate.specs.Exact.{accepted}
-use Rattle.translate.specs.Joined.{literal_value}
+use Rattle.diagrams.specs.Eval.{literal_value}
 use Rattle.translate.proofs.LeastLemmas.{least_ok}
 use Rattle.translate.proofs.StandingLemmas.{cell-stands}
 use Rattle.translate.proofs.JoinLemmas.{literal_truth}

@@ -6,7 +6,7 @@ use Rattle.forms.specs.Tree.{tree, program}
 use Rattle.forms.specs.Parts.{parts, test_parts}
 use Rattle.automata.proofs.Lasts.{fits_lasts}
 use Rattle.translate.specs.Operation.{unary_form, binary_form, modal_form}
-use Rattle.translate.specs.Tests.{IsTest}
+use Rattle.translate.specs.PathTests.{IsTest}
 use Rattle.translate.specs.Counting.{IfTooMany}
 use Rattle.translate.specs.Tally.{StopsAt}
 use Rattle.translate.proofs.MeantLemmas.{unary_made, binary_made, modal_made, tests_last, tests_more}

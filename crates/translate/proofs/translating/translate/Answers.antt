@@ -1,4 +1,4 @@
-use Rattle.std.proofs.Common.{◌∙◌}
+use Rattle.std.proofs.Common.{refl, ◌∙◌}
 use Rattle.std.proofs.lemmas.Result.{err_from_is_err_and}
 use Rattle.forms.specs.Tree.{tree}
 use Rattle.forms.specs.Parts.{parts}
@@ -10,16 +10,16 @@ use Rattle.translate.proofs.translating.translate.Goals as goal
 
 pub returns-in_err-automaton-clause-too_many : goal.returns-in_err-automaton-clause-too_many
 returns-in_err-automaton-clause-too_many c =
-    let r = err_from_is_err_and c.from_residual-in_err-automaton.result c.from_residual-in_err-automaton.ensures.1 in
+    let r = err_from_is_err_and c.from_residual.result c.from_residual.ensures.1 in
     rw (r.1, r.2)
-    (first_over_from c.args.store.now.props c.terminal.new.self.props c.args.limit (tree c.args.form.now) c.new-counts.result _
-    c.in_ok-terminal.ensures.keeps.extends.props c.new-counts.ensures c.in_err-automaton.ensures.too_many)
+    (first_over_from c.args.store.now.props c.args.store.now.props c.args.limit (tree c.args.form.now) c.new-counts.result _
+    refl c.new-counts.ensures c.in_err-automaton.ensures.too_many)
 
 pub returns-in_err-admit-clause-too_many : goal.returns-in_err-admit-clause-too_many
 returns-in_err-admit-clause-too_many c =
     let p = c.args.store.now.props in
     let f = tree c.args.form.now in
-    let kp = c.in_ok-automaton.ensures.keeps.extends.props ∙ c.in_ok-terminal.ensures.keeps.extends.props in
+    let kp = c.in_ok-automaton.ensures.keeps.extends.props in
     let kw = c.in_ok-whole.ensures.keeps.extends.props ∙ kp in
     let s = c.nonempty.new.store in
     let t = c.in_ok-whole.whole in
@@ -27,7 +27,7 @@ returns-in_err-admit-clause-too_many c =
     let r = err_from_is_err_and c.from_residual-in_err-admit.result c.from_residual-in_err-admit.ensures.1 in
     rw (r.1, r.2)
     (whole_over p c.args.limit f c.part.new.counts c.size.result (size_of t) _
-    (adds_from p c.terminal.new.self.props c.args.limit (parts f) c.new-counts.result c.part.new.counts c.in_ok-terminal.ensures.keeps.extends.props c.new-counts.ensures c.in_ok-automaton.ensures.counts)
+    (adds_from p c.args.store.now.props c.args.limit (parts f) c.new-counts.result c.part.new.counts refl c.new-counts.ensures c.in_ok-automaton.ensures.counts)
     (class_count s t (λ w. meets p f w) p kw least) c.size.ensures.size c.in_err-admit.ensures.too_many)
 
 pub returns-clause-counts : goal.returns-clause-counts
@@ -35,20 +35,20 @@ returns-clause-counts c =
     let p = c.args.store.now.props in
     let f = tree c.args.form.now in
     counts_of p c.args.limit f c.part.new.counts
-    (adds_from p c.terminal.new.self.props c.args.limit (parts f) c.new-counts.result c.part.new.counts c.in_ok-terminal.ensures.keeps.extends.props c.new-counts.ensures c.in_ok-automaton.ensures.counts)
+    (adds_from p c.args.store.now.props c.args.limit (parts f) c.new-counts.result c.part.new.counts refl c.new-counts.ensures c.in_ok-automaton.ensures.counts)
 
 pub returns-clause-within : goal.returns-clause-within
 returns-clause-within c =
     let p = c.args.store.now.props in
     let f = tree c.args.form.now in
     counts_within p c.args.limit (parts f) c.part.new.counts
-    (adds_from p c.terminal.new.self.props c.args.limit (parts f) c.new-counts.result c.part.new.counts c.in_ok-terminal.ensures.keeps.extends.props c.new-counts.ensures c.in_ok-automaton.ensures.counts)
+    (adds_from p c.args.store.now.props c.args.limit (parts f) c.new-counts.result c.part.new.counts refl c.new-counts.ensures c.in_ok-automaton.ensures.counts)
 
 pub returns-clause-size : goal.returns-clause-size
 returns-clause-size c =
     let p = c.args.store.now.props in
     let f = tree c.args.form.now in
-    let kp = c.in_ok-automaton.ensures.keeps.extends.props ∙ c.in_ok-terminal.ensures.keeps.extends.props in
+    let kp = c.in_ok-automaton.ensures.keeps.extends.props in
     let kw = c.in_ok-whole.ensures.keeps.extends.props ∙ kp in
     let s = c.nonempty.new.store in
     let t = c.in_ok-whole.whole in
@@ -59,7 +59,7 @@ pub returns-clause-least : goal.returns-clause-least
 returns-clause-least c =
     let p = c.args.store.now.props in
     let f = tree c.args.form.now in
-    let kp = c.in_ok-automaton.ensures.keeps.extends.props ∙ c.in_ok-terminal.ensures.keeps.extends.props in
+    let kp = c.in_ok-automaton.ensures.keeps.extends.props in
     let kw = c.in_ok-whole.ensures.keeps.extends.props ∙ kp in
     let s = c.nonempty.new.store in
     let t = c.in_ok-whole.whole in
@@ -70,7 +70,7 @@ pub returns-clause-same_traces : goal.returns-clause-same_traces
 returns-clause-same_traces c =
     let p = c.args.store.now.props in
     let f = tree c.args.form.now in
-    let kp = c.in_ok-automaton.ensures.keeps.extends.props ∙ c.in_ok-terminal.ensures.keeps.extends.props in
+    let kp = c.in_ok-automaton.ensures.keeps.extends.props in
     let kw = c.in_ok-whole.ensures.keeps.extends.props ∙ kp in
     let s = c.nonempty.new.store in
     let t = c.in_ok-whole.whole in
@@ -81,7 +81,7 @@ pub returns-clause-smallest : goal.returns-clause-smallest
 returns-clause-smallest c =
     let p = c.args.store.now.props in
     let f = tree c.args.form.now in
-    let kp = c.in_ok-automaton.ensures.keeps.extends.props ∙ c.in_ok-terminal.ensures.keeps.extends.props in
+    let kp = c.in_ok-automaton.ensures.keeps.extends.props in
     let kw = c.in_ok-whole.ensures.keeps.extends.props ∙ kp in
     let s = c.nonempty.new.store in
     let t = c.in_ok-whole.whole in

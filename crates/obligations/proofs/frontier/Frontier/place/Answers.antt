@@ -11,11 +11,11 @@ invariant_of-self c = numbered_same c.self.inside _ c.self.invariant c.in_err-pu
 pub invariant_of-self-in_err-insert : goal.invariant_of-self-in_err-insert
 invariant_of-self-in_err-insert c =
     let at = c.len-at.ensures ∙ c.self.inside.claims.ok.0 in
-    let few : length c.self.inside.claims.items < 2 ^ 32 - 2 = omega (arith, c.if-at-ge-MOST.false, at) in
+    let few : length c.self.inside.claims.items < 2 ^ 32 - 2 = omega (arith, c.if-at-ge-MOST_LOCATIONS.false, at) in
     numbered_push c.self.inside _ c.args.claim c.self.invariant few c.in_ok-push.ensures.items c.in_err-insert.ensures.err
 
 pub invariant_of-self-2 : goal.invariant_of-self-2
 invariant_of-self-2 c =
     let at = c.len-at.ensures ∙ c.self.inside.claims.ok.0 in
-    let few : length c.self.inside.claims.items < 2 ^ 32 - 2 = omega (arith, c.if-at-ge-MOST.false, at) in
+    let few : length c.self.inside.claims.items < 2 ^ 32 - 2 = omega (arith, c.if-at-ge-MOST_LOCATIONS.false, at) in
     numbered_insert c.self.inside _ c.args.claim c.len-at.result c.self.invariant few c.in_ok-push.ensures.items at c.in_ok-insert.ensures.updates.0

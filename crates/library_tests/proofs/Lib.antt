@@ -1,0 +1,4 @@
+mod DiagramLemmas
+mod BuildingLemmas
+mod TableLemmas
+mod PropositionLemmas
