@@ -7,6 +7,7 @@ use Rattle.forms.specs.Paths.{WordRelation, reaches, reaches_further, one_step, 
 use Rattle.forms.proofs.Suffixes.{both_ways, same-refl, same-true}
 use Rattle.forms.proofs.Leads.{IsInward, reaches-find, reaches-from, reaches-step, reaches-test, reaches-choice, reaches-seq, reaches-star, star-unrolled}
 
+-- a suffix is no longer than the word
 pub IsSuffix-length : {v w : Word} → IsSuffix v w → length v ≤ length w
 IsSuffix-length whole = omega arith
 IsSuffix-length (later e) = omega (arith, IsSuffix-length e)
@@ -25,6 +26,7 @@ reaches-agree q f g u h = both_ways _ _
     (λ e. let r = reaches-find q f u e in reaches-from q g u r.0 r.1 r.2 (sym (h r.0 r.1) ∙ r.3))
     (λ e. let r = reaches-find q g u e in reaches-from q f u r.0 r.1 r.2 (h r.0 r.1 ∙ r.3))
 
+-- a claim is reached further on, or the relation stays at the word and the claim holds there
 pub reaches-split : (q : WordRelation) (k : Claim) (u : Word) → reaches q k u ≡ (reaches_further q k u || q u u && k u)
 unfolding reaches_further
 reaches-split q k u = both_ways _ _ split join
@@ -61,22 +63,26 @@ shorter-agree q r k u =
         (reaches-agree r (λ n. nat_lt (length n) (length u) && k n) k m
         (λ v d. let yes : nat_lt (length v) (length u) ≡ true = lt-ltb _ _ (omega (arith, IsSuffix-length d)) in rw yes refl))
 
+-- a step reaches a claim further on where its own claim holds and the other one holds a letter later
 pub reaches_further-step : (f k : Claim) (a : ℕ) (w : Word) → reaches_further (one_step f) k (a ∷ w) ≡ (f (a ∷ w) && k w)
 unfolding reaches_further
 reaches_further-step f k a w =
     let yes : nat_lt (length w) (length (a ∷ w)) ≡ true = lt-ltb (length w) (suc (length w)) (omega arith) in
     reaches-step f (λ m. nat_lt (length m) (length (a ∷ w)) && k m) a w ∙ ap (λ b. f (a ∷ w) && (b && k w)) yes
 
+-- a test never leads further
 pub reaches_further-test : (f k : Claim) (u : Word) → reaches_further (λ u v. same u v && f u) k u ≡ false
 unfolding reaches_further
 reaches_further-test f k u =
     reaches-test f (λ m. nat_lt (length m) (length u) && k m) u
     ∙ ap (λ b. f u && (b && k u)) (not_shorter u) ∙ and_right (f u) false refl
 
+-- a choice leads further where one of its two relations does
 pub reaches_further-choice : (q r : WordRelation) (k : Claim) (u : Word) → reaches_further (λ u v. q u v || r u v) k u ≡ (reaches_further q k u || reaches_further r k u)
 unfolding reaches_further
 reaches_further-choice q r k u = reaches-choice q r (λ m. nat_lt (length m) (length u) && k m) u
 
+-- a sequence leads further by its first relation, or stays by it and leads further by its second
 pub reaches_further-seq : (q r : WordRelation) (k : Claim) → IsInward r → (u : Word)
     → reaches_further (λ u v. reaches q (λ m. r m v) u) k u ≡ (reaches_further q (λ m. reaches r k m) u || q u u && reaches_further r k u)
 unfolding reaches_further
@@ -93,6 +99,7 @@ reaches_further-star q k u =
     ∙ ap (λ b. (b && k u) || reaches q (λ m. nat_lt (length m) (length u) && reaches (star q) (λ n. nat_lt (length n) (length u) && k n) m) u) (not_shorter u)
     ∙ shorter-agree q (star q) k u
 
+-- a step never stays where it is
 pub stays-step : (f : Claim) (u : Word) → one_step f u u ≡ false
 stays-step f [] = refl
 stays-step f (a ∷ w) = and_left _ _ (longer (same w (a ∷ w)) (λ h. let e : w ≡ a ∷ w = same-true w (a ∷ w) h in omega (arith, ap length e)))
@@ -101,9 +108,11 @@ stays-step f (a ∷ w) = and_left _ _ (longer (same w (a ∷ w)) (λ h. let e : 
     longer true h = absurd (h refl)
     longer false h = refl
 
+-- a test stays where its claim holds
 pub stays-test : (f : Claim) (u : Word) → (same u u && f u) ≡ f u
 stays-test f u = rw (same-refl u) refl
 
+-- a sequence stays where both of its relations stay
 pub stays-seq : (q r : WordRelation) → IsInward r → (u : Word) → reaches q (λ m. r m u) u ≡ (q u u && r u u)
 stays-seq q r inward u = both_ways _ _ split join
   where
@@ -118,6 +127,7 @@ stays-seq q r inward u = both_ways _ _ split join
     join : (q u u && r u u) ≡ true → reaches q (λ m. r m u) u ≡ true
     join h = let p = and_parts _ _ h in reaches-from q (λ m. r m u) u u whole p.0 p.1
 
+-- a star stays at every word
 pub stays-star : (q : WordRelation) (u : Word) → star q u u ≡ true
 stays-star q u = star-unrolled q u u ∙ or_left _ _ (same-refl u)
 

@@ -12,6 +12,7 @@ use Rattle.forms.proofs.Suffixes.{both_ways, IsSuffix-trans, some_suffix-find, s
 abbrev pub IsInward : WordRelation → Type 0
 IsInward q = (u v : Word) → q u v ≡ true → IsSuffix v u
 
+-- where a claim is reached, there is a suffix that the relation leads to and that has the claim
 pub reaches-find : (q : WordRelation) (k : Claim) (u : Word) → reaches q k u ≡ true → (v : Word) × IsSuffix v u × (q u v ≡ true) × (k v ≡ true)
 unfolding reaches
 reaches-find q k u h =
@@ -19,10 +20,12 @@ reaches-find q k u h =
     let p = and_parts _ _ r.2 in
     (r.0, r.1, p.0, p.1)
 
+-- a claim is reached if the relation leads to some suffix that has it
 pub reaches-from : (q : WordRelation) (k : Claim) (u v : Word) → IsSuffix v u → q u v ≡ true → k v ≡ true → reaches q k u ≡ true
 unfolding reaches
 reaches-from q k u v d e f = some_suffix-from (λ v. q u v && k v) d (and_from _ _ e f)
 
+-- a step reaches a claim where its own claim holds and the other one holds a letter later
 pub reaches-step : (f k : Claim) (a : ℕ) (w : Word) → reaches (one_step f) k (a ∷ w) ≡ (f (a ∷ w) && k w)
 reaches-step f k a w = both_ways _ _
     (λ h. let r = reaches-find (one_step f) k (a ∷ w) h in
@@ -33,6 +36,7 @@ reaches-step f k a w = both_ways _ _
     (λ h. let p = and_parts _ _ h in
     reaches-from (one_step f) k (a ∷ w) w (later whole) (and_from _ _ (same-refl w) p.0) p.1)
 
+-- a test reaches a claim where its own claim and the other one both hold
 pub reaches-test : (f k : Claim) (u : Word) → reaches (λ u v. same u v && f u) k u ≡ (f u && k u)
 reaches-test f k u = both_ways _ _
     (λ h. let r = reaches-find (λ u v. same u v && f u) k u h in
@@ -43,6 +47,7 @@ reaches-test f k u = both_ways _ _
     (λ h. let p = and_parts _ _ h in
     reaches-from (λ u v. same u v && f u) k u u whole (and_from _ _ (same-refl u) p.0) p.1)
 
+-- a choice reaches a claim where one of its two relations does
 pub reaches-choice : (q r : WordRelation) (k : Claim) (u : Word) → reaches (λ u v. q u v || r u v) k u ≡ (reaches q k u || reaches r k u)
 reaches-choice q r k u = both_ways _ _ split join
   where
@@ -60,6 +65,7 @@ reaches-choice q r k u = both_ways _ _ split join
       | inr e ↦ (let t = reaches-find r k u e in reaches-from (λ u v. q u v || r u v) k u t.0 t.1 (or_right (q u t.0) _ t.2) t.3)
     ]
 
+-- a sequence reaches a claim where its first relation leads to a word from which its second reaches it
 pub reaches-seq : (q r : WordRelation) (k : Claim) → IsInward r → (u : Word) → reaches (λ u v. reaches q (λ m. r m v) u) k u ≡ reaches q (λ m. reaches r k m) u
 reaches-seq q r k inward u = both_ways _ _
     (λ h. let s = reaches-find (λ u v. reaches q (λ m. r m v) u) k u h in
@@ -70,6 +76,7 @@ reaches-seq q r k inward u = both_ways _ _
     reaches-from (λ u v. reaches q (λ m. r m v) u) k u t.0 (IsSuffix-trans t.1 s.1)
     (reaches-from q (λ m. r m t.0) u s.0 s.1 s.2 t.2) t.3)
 
+-- turns of a relation lead to suffixes alone
 pub IsInward-turns : (n : ℕ) (q : WordRelation) → IsInward (turns n q)
 IsInward-turns zero q u v h = let P : Word → Type 0 = λ x. IsSuffix x u in subst P (same-true u v h) whole
 IsInward-turns (suc n) q u v h = go (IsInward-turns n q) (or_cases _ _ h)
@@ -106,6 +113,7 @@ turns-enough (suc n) m q u v b h = go m b (λ k w c. turns-enough n k q w v c) (
         or_right (same u v) _ (some_suffix-from (λ x. nat_lt (length x) (length u) && (q u x && turns m q x v)) r.1
         (and_from _ _ p.0 (and_from _ _ s.0 (further m r.0 fits s.1))))
 
+-- a star leads to suffixes alone
 pub IsInward-star : (q : WordRelation) → IsInward (star q)
 IsInward-star q u v h = IsInward-turns (length u) q u v h
 

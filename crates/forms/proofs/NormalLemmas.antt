@@ -108,6 +108,7 @@ mutual
   negated_is_normal (Diamond p f) = (program_is_normal p, negated_is_normal f)
   negated_is_normal (BoxAll p f) = (program_is_normal p, negated_is_normal f)
 
+  -- the normal form of a path program has its tests in normal form
   pub program_is_normal : (p : Program) → IsNormalProgram (normal_program p)
   program_is_normal (Step f) = tt
   program_is_normal (Test f) = normal_is_normal f
@@ -154,6 +155,7 @@ mutual
   negated_proper p (Diamond r f) h = (program_proper p r h.0, negated_proper p f h.1)
   negated_proper p (BoxAll r f) h = (program_proper p r h.0, negated_proper p f h.1)
 
+  -- the normal form of a proper path program is proper
   pub program_proper : (p : ℕ) (r : Program) → IsProperProgram p r → IsProperProgram p (normal_program r)
   program_proper p (Step f) h = h
   program_proper p (Test f) h = normal_proper p f h

@@ -11,9 +11,11 @@ use Rattle.forms.proofs.Suffixes.{some_suffix-find, some_suffix-from, every_suff
 use Rattle.forms.proofs.Leads.{reaches-find, reaches-from, star-unrolled, IsInward-goes}
 use Rattle.forms.proofs.Further.{IsSuffix-cases}
 
+-- a path leads from a word to its suffixes alone
 pub goes_to_suffixes : GoesToSuffixes
 goes_to_suffixes p r u v h = IsInward-goes p r u v h
 
+-- a diamond holds where its path leads to some suffix on which its formula holds
 pub diamond_holds : DiamondHolds
 diamond_holds p r f u = (
   λ h. reaches-find (λ m n. goes p r m n) (λ v. sat p f v) u h,
@@ -28,12 +30,14 @@ implied : (x y : Bool) → (x ≡ true → y ≡ true) → (not x || y) ≡ true
 implied true y h = h refl
 implied false y h = refl
 
+-- a box holds where its formula holds on every suffix that its path leads to
 pub box_holds : BoxHolds
 box_holds p r f u = (
   λ h v d e. implies _ _ (every_suffix-at (λ v. not (goes p r u v) || sat p f v) d h) e,
   λ h. every_suffix-from (λ v. not (goes p r u v) || sat p f v) u (λ v d. implied _ _ (h v d)),
 )
 
+-- a step reads one letter, where its formula holds before it
 pub step_goes : StepGoes
 step_goes p g u v = (forth u, back u)
   where
@@ -48,12 +52,14 @@ step_goes p g u v = (forth u, back u)
         let P : Word → Type 0 = λ x. goes p (Step g) x v ≡ true in
         subst P (sym e) (and_from _ _ (same-refl v) (let Q : Word → Type 0 = λ x. sat p g x ≡ true in subst Q e h))
 
+-- a test stays where it is, where its formula holds
 pub test_goes : TestGoes
 test_goes p g u v = (
   λ h. (let k = and_parts _ _ h in (sym (same-true u v k.0), k.1)),
   λ (e, h). and_from _ _ (let P : Word → Type 0 = λ x. same u x ≡ true in subst P (sym e) (same-refl u)) h,
 )
 
+-- a choice goes as one of its two paths does
 pub choice_goes : ChoiceGoes
 choice_goes p q r u v = (λ h. or_cases _ _ h, back)
   where
@@ -61,6 +67,7 @@ choice_goes p q r u v = (λ h. or_cases _ _ h, back)
     back (inl h) = or_left _ _ h
     back (inr h) = or_right (goes p q u v) _ h
 
+-- a sequence goes by some suffix, to which the first path goes and from which the second does
 pub seq_goes : SeqGoes
 seq_goes p q r u v = (
   λ h. reaches-find (λ m n. goes p q m n) (λ m. goes p r m v) u h,
@@ -71,6 +78,7 @@ seq_goes p q r u v = (
 abbrev turn : ℕ → Program → Word → Word → Claim
 turn p q u v m = nat_lt (length m) (length u) && (goes p q u m && star (goes p q) m v)
 
+-- a star stays where it is, or one turn leads to a shorter word from which the star goes on
 pub star_goes : StarGoes
 star_goes p q u v = (forth, back)
   where
@@ -119,6 +127,7 @@ turns-then_star (suc n) p q u m v h k = go (λ x l. turns-then_star n p q x m v 
         let b = and_parts _ _ a.1 in
         (star_goes p q u v).1 (inr (f.0, ltb-true _ _ a.0, b.0, further f.0 b.1))
 
+-- a star is the reflexive and transitive closure of its path
 pub star_is_closure : StarIsClosure
 star_is_closure p q = record {
   reflexive = λ u. (star_goes p q u u).1 (inl refl);

@@ -5,10 +5,12 @@ use Rattle.std.proofs.lemmas.Bool.{cases_Bool, eq-eqb, eqb-true, eqb-false, lt-l
 use Rattle.forms.specs.Word.{Word}
 use Rattle.forms.specs.Shortlex.{has_lesser_letters, comes_before, ShorterComesFirst, LesserLetterComesFirst, NeverBeforeItself, BeforeIsTransitive, OneComesFirst}
 
+-- of two words the shorter comes first
 pub before-shorter : ShorterComesFirst
 unfolding comes_before
 before-shorter u v h = or_left _ _ (lt-ltb (length u) (length v) h)
 
+-- of two words of one length the one with the lesser letters comes first
 pub before-lesser : (u v : Word) → length u ≡ length v → has_lesser_letters u v ≡ true → comes_before u v ≡ true
 unfolding comes_before
 before-lesser u v e h = or_right (nat_lt (length u) (length v)) _ (and_from _ _ (eq-eqb (length u) (length v) e) h)
@@ -30,9 +32,11 @@ lesser-cases a b u v h =
       | inr q ↦ let x = and_parts _ _ q in inr (eqb-true a b x.0, x.1)
     ]
 
+-- a word that begins with a lesser letter has the lesser letters
 pub lesser-less : (a b : ℕ) (u v : Word) → a < b → has_lesser_letters (a ∷ u) (b ∷ v) ≡ true
 lesser-less a b u v h = or_left _ _ (lt-ltb a b h)
 
+-- one letter before two words leaves the lesser letters with the same one
 pub lesser-more : (a : ℕ) (u v : Word) → has_lesser_letters u v ≡ true → has_lesser_letters (a ∷ u) (a ∷ v) ≡ true
 lesser-more a u v h = or_right (nat_lt a a) _ (and_from _ _ (eq-eqb a a refl) h)
 
@@ -40,6 +44,7 @@ lesser-after : (w u v : Word) (a b : ℕ) → a < b → has_lesser_letters (w ++
 lesser-after [] u v a b h = lesser-less a b u v h
 lesser-after (c ∷ w) u v a b h = lesser-more c (w ++ a ∷ u) (w ++ b ∷ v) (lesser-after w u v a b h)
 
+-- of two words of one length, the one with the lesser letter where they first differ comes first
 pub before-letter : LesserLetterComesFirst
 before-letter w u v a b h e =
     before-lesser (w ++ a ∷ u) (w ++ b ∷ v)
@@ -62,6 +67,7 @@ lesser-trans (a ∷ u) (b ∷ v) (c ∷ w) h k =
       ]
     ]
 
+-- what comes before a word comes before all that the word comes before
 pub before-trans : BeforeIsTransitive
 before-trans u v w h k =
     elim (before-cases u v h) [
@@ -104,10 +110,12 @@ lesser-not_itself : (u : Word) → has_lesser_letters u u ≡ true → ⊥
 lesser-not_itself [] h = true≢false (sym h)
 lesser-not_itself (a ∷ u) h = elim (lesser-cases a a u u h) [ inl x ↦ omega (arith, x) | inr x ↦ lesser-not_itself u x.1 ]
 
+-- no word comes before itself
 pub before-not_itself : NeverBeforeItself
 before-not_itself u =
     false_from_ne_true (comes_before u u) (λ h. elim (before-cases u u h) [ inl x ↦ omega (arith, x) | inr x ↦ lesser-not_itself u x.1 ])
 
+-- of two different words one comes first
 pub before-total : OneComesFirst
 before-total u v =
     elim (cases_Bool (comes_before u v)) [
