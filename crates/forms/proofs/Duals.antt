@@ -1,6 +1,7 @@
 -- Operators over claims that are the same everywhere, or opposite.
 use Rattle.std.proofs.Common.{◌≡◌, ℕ, zero, suc, [], ◌∷◌, length, refl, sym, ap, Bool, true, false, nat_lt}
 use Rattle.std.specs.Prelude.{◌&&◌, ◌||◌, not}
+use Rattle.std.proofs.Math.Bool.{not-not}
 use Rattle.forms.specs.Word.{Word, Claim, same, some_suffix, every_suffix}
 use Rattle.forms.specs.Operators.{agree, next, weak_next, until, release, eventually, always}
 use Rattle.forms.specs.Paths.{WordRelation, reaches, turns}
@@ -12,11 +13,6 @@ AreSame f g = (w : Word) → f w ≡ g w
 -- the first claim holds exactly where the second does not
 abbrev pub AreOpposite : Claim → Claim → Type 0
 AreOpposite f g = (w : Word) → f w ≡ not (g w)
-
--- two negations cancel
-pub not-not : (x : Bool) → not (not x) ≡ x
-not-not true = refl
-not-not false = refl
 
 -- the negation of an `and` is the `or` of the negations
 pub not-and : (x y : Bool) → (not x || not y) ≡ not (x && y)

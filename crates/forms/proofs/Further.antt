@@ -1,10 +1,11 @@
 -- Where a path leads, split into the word itself and its shorter ends.
 use Rattle.std.proofs.Common.{◌≡◌, ℕ, suc, ◌<◌, ◌≤◌, [], ◌∷◌, length, refl, sym, ◌∙◌, ap, subst, inl, inr, arith, Bool, true, false, ◌⊎◌, nat_lt}
 use Rattle.std.specs.Prelude.{◌&&◌, ◌||◌, not}
+use Rattle.std.specs.Cmp.{both_ways}
 use Rattle.std.proofs.lemmas.Bool.{and_parts, and_from, and_left, and_right, or_cases, or_left, or_right, lt-ltb, le-ltb}
 use Rattle.forms.specs.Word.{Word, Claim, IsSuffix, whole, later, same, some_suffix, every_suffix}
 use Rattle.forms.specs.Paths.{WordRelation, reaches, reaches_further, one_step, star}
-use Rattle.forms.proofs.Suffixes.{both_ways, same-refl, same-true}
+use Rattle.forms.proofs.Suffixes.{same-refl, same-true}
 use Rattle.forms.proofs.Leads.{IsInward, reaches-find, reaches-from, reaches-step, reaches-test, reaches-choice, reaches-seq, reaches-star, star-unrolled}
 
 -- a suffix is no longer than the word

@@ -1,12 +1,13 @@
 -- Where a path leads, law by law.
 use Rattle.std.proofs.Common.{◌≡◌, ℕ, zero, suc, ◌<◌, ◌≤◌, [], ◌∷◌, length, refl, sym, ◌∙◌, subst, inl, inr, arith, true, false, ◌⊎◌, nat_lt}
 use Rattle.std.specs.Prelude.{◌&&◌, ◌||◌}
+use Rattle.std.specs.Cmp.{both_ways}
 use Rattle.std.proofs.lemmas.Bool.{and_parts, and_from, or_cases, or_left, or_right, ltb-true}
 use Rattle.forms.specs.Word.{Word, Claim, IsSuffix, whole, later, same, some_suffix}
 use Rattle.forms.specs.Paths.{WordRelation, reaches, one_step, turns, star}
 use Rattle.forms.specs.Tree.{Program, Step, Test, Choice, Seq, Star}
 use Rattle.forms.specs.Satisfaction.{goes}
-use Rattle.forms.proofs.Suffixes.{both_ways, IsSuffix-trans, some_suffix-find, some_suffix-from, same-refl, same-true}
+use Rattle.forms.proofs.Suffixes.{IsSuffix-trans, some_suffix-find, some_suffix-from, same-refl, same-true}
 
 -- a relation that leads to ends alone
 abbrev pub IsInward : WordRelation → Type 0

@@ -1,12 +1,13 @@
 -- Negation normal form keeps satisfaction, and has its shape.
 use Rattle.std.proofs.Common.{◌≡◌, ℕ, length, refl, sym, ◌∙◌}
 use Rattle.std.specs.Prelude.{◌||◌, not}
+use Rattle.std.proofs.Math.Bool.{not-not}
 use Rattle.forms.specs.Word.{Word}
 use Rattle.forms.specs.Tree.{Formula, Program, True, False, Atom, Not, And, Or, Implies, Iff, Next, WeakNext, Until, Release, Eventually, Always, Diamond, BoxAll, Step, Test, Choice, Seq, Star}
 use Rattle.forms.specs.Satisfaction.{sat, goes}
 use Rattle.forms.specs.Proper.{IsProper, IsProperProgram}
 use Rattle.forms.specs.Normal.{normal, negated, normal_program, IsNegationNormal, IsNormalProgram}
-use Rattle.forms.proofs.Duals.{not-not, not-and, not-or, not-agree, not-implies, next-same, weak_next-same, until-same, release-same, eventually-same, always-same, weak_next-opposite, next-opposite, release-opposite, until-opposite, always-opposite, eventually-opposite, every_suffix-same, box-opposite, diamond-opposite, reaches-same, turns-same}
+use Rattle.forms.proofs.Duals.{not-and, not-or, not-agree, not-implies, next-same, weak_next-same, until-same, release-same, eventually-same, always-same, weak_next-opposite, next-opposite, release-opposite, until-opposite, always-opposite, eventually-opposite, every_suffix-same, box-opposite, diamond-opposite, reaches-same, turns-same}
 
 mutual
   -- the normal form holds where the formula does

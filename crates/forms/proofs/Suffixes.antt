@@ -1,13 +1,7 @@
 -- The suffixes of a word, and tests on them as facts.
-use Rattle.std.proofs.Common.{◌≡◌, [], ◌∷◌, refl, sym, inl, inr, Bool, true, false, ◌⊎◌}
+use Rattle.std.proofs.Common.{◌≡◌, [], ◌∷◌, refl, inl, inr, true, ◌⊎◌}
 use Rattle.std.proofs.lemmas.Bool.{and_parts, and_from, or_cases, or_left, or_right, eqb-true, eq-eqb}
 use Rattle.forms.specs.Word.{Word, Claim, IsSuffix, whole, later, same, some_suffix, every_suffix}
-
--- two tests that hold together are one
-pub both_ways : (x y : Bool) → (x ≡ true → y ≡ true) → (y ≡ true → x ≡ true) → x ≡ y
-both_ways true y f g = sym (f refl)
-both_ways false true f g = g refl
-both_ways false false f g = refl
 
 -- a suffix of a suffix is a suffix
 pub IsSuffix-trans : {u v w : Word} → IsSuffix u v → IsSuffix v w → IsSuffix u w
