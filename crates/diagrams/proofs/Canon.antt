@@ -4,6 +4,7 @@ use Rattle.std.proofs.lemmas.Bool.{cases_order, cases_eq}
 use Rattle.std.proofs.lemmas.Bool.Decides.{nat_tests}
 use Rattle.diagrams.specs.Tree.{Tree, Constant, Branch, Assignment, put, value_at, IsAbove, IsReduced, AllVars}
 
+-- a tree above a variable is above each lesser one
 pub above-trans : (v w : ℕ) (t : Tree) → v < w → IsAbove w t → IsAbove v t
 above-trans v w (Constant t) h k = tt
 above-trans v w (Branch x lo hi) h k = omega arith
@@ -18,24 +19,31 @@ value_at-agree v (Branch w lo hi) a b h r same =
       value_at-agree w hi a b r.1 r.4 (λ x k. same x (omega arith)),
     )
 
+-- a variable that is changed has its new value
 pub put-same : (a : Assignment) (v : ℕ) (b : Bool) → put a v b v ≡ b
 put-same a v b = rw (eq-eqb v v refl)
 
+-- a change of a variable leaves those above it as they were
 pub put-above : (a : Assignment) (v : ℕ) (b : Bool) (w : ℕ) → v < w → put a v b w ≡ a w
 put-above a v b w h = grind (arith, nat_tests)
 
+-- a change of a variable leaves the others as they were
 pub put-ne : (a : Assignment) (v : ℕ) (b : Bool) (w : ℕ) → (w ≡ v → ⊥) → put a v b w ≡ a w
 put-ne a v b w h = grind (arith, nat_tests)
 
+-- a change of a variable leaves the value of a reduced tree above it as it was
 pub value_at-put : (v : ℕ) (t : Tree) (a : Assignment) (b : Bool) → IsAbove v t → IsReduced t → value_at t (put a v b) ≡ value_at t a
 value_at-put v t a b h r = value_at-agree v t (put a v b) a h r (put-above a v b)
 
+-- where its variable is false, a reduced branch has the value of its low child
 pub low : (v : ℕ) (lo hi : Tree) (a : Assignment) → IsReduced (Branch v lo hi) → value_at (Branch v lo hi) (put a v false) ≡ value_at lo a
 low v lo hi a r = rw (put-same a v false) (value_at-put v lo a false r.0 r.3)
 
+-- where its variable is true, a reduced branch has the value of its high child
 pub high : (v : ℕ) (lo hi : Tree) (a : Assignment) → IsReduced (Branch v lo hi) → value_at (Branch v lo hi) (put a v true) ≡ value_at hi a
 high v lo hi a r = rw (put-same a v true) (value_at-put v hi a true r.1 r.4)
 
+-- how many branches a tree has
 abbrev pub tree_size : Tree → ℕ
 tree_size (Constant t) = 0
 tree_size (Branch v lo hi) = suc (tree_size lo + tree_size hi)
@@ -81,6 +89,7 @@ overlap v w l h k r d =
     ∙ d (put a w false) (put a w true) (λ x y. put-above a w false x (omega arith) ∙ sym (put-above a w true x (omega arith)))
     ∙ high w l h a r))
 
+-- a reduced tree whose value depends on the variables above v alone is above v
 pub above_from_depends : (v : ℕ) (t : Tree) → IsReduced t
     → ((a b : Assignment) → ((w : ℕ) → v < w → a w ≡ b w) → value_at t a ≡ value_at t b) → IsAbove v t
 above_from_depends v (Constant x) r d = tt
@@ -91,6 +100,7 @@ above_from_depends v (Branch w l h) r d =
       | inr (inr k) ↦ absurd (overlap v w l h (omega arith) r d)
     ]
 
+-- where two assignments agree, they agree after the same change of both
 pub put-alike : (a b : Assignment) (v : ℕ) (x : Bool) (w : ℕ) → a w ≡ b w → put a v x w ≡ put b v x w
 put-alike a b v x w e = ap (λ z. cond (eqb w v) x z) e
 
@@ -101,12 +111,14 @@ pub low-depends : (P : ℕ → Type 0) (v : ℕ) (lo hi : Tree) → IsReduced (B
 low-depends P v lo hi r d a b same =
     sym (low v lo hi a r) ∙ d (put a v false) (put b v false) (λ w h. put-alike a b v false w (same w h)) ∙ low v lo hi b r
 
+-- the high child too depends on no further variables
 pub high-depends : (P : ℕ → Type 0) (v : ℕ) (lo hi : Tree) → IsReduced (Branch v lo hi)
     → ((a b : Assignment) → ((w : ℕ) → P w → a w ≡ b w) → value_at (Branch v lo hi) a ≡ value_at (Branch v lo hi) b)
     → (a b : Assignment) → ((w : ℕ) → P w → a w ≡ b w) → value_at hi a ≡ value_at hi b
 high-depends P v lo hi r d a b same =
     sym (high v lo hi a r) ∙ d (put a v true) (put b v true) (λ w h. put-alike a b v true w (same w h)) ∙ high v lo hi b r
 
+-- a variable outside P may be changed without changing those in P
 pub put-other : (P : ℕ → Type 0) (a : Assignment) (v w : ℕ) → (P v → ⊥) → P w → put a v false w ≡ put a v true w
 put-other P a v w n h =
     elim (cases_eq w v) [

@@ -40,6 +40,7 @@ whole s v i h = record {
   hi_size = omega arith;
 }
 
+-- the children of a node are its cofactors at its own variable
 pub own : (s : Diagrams) → IsCanonical s → (v : ℕ) (i lo hi : Id) → top_of s i ≡ Some (Node v lo hi) → AreCofactors s v i lo hi
 own s c v i lo hi e =
     let n = c.nodes i v lo hi e in
@@ -52,6 +53,7 @@ own s c v i lo hi e =
       hi_size = omega arith;
     }
 
+-- a top tells the cofactors at a variable that is its own or before it
 pub are_cofactors : (s : Diagrams) → IsCanonical s → (i : Id) (top : Look) → top_of s i ≡ Some top → (v : ℕ) → v ≤ var_of top
     → AreCofactors s v i (low_of i top v) (high_of i top v)
 are_cofactors s c i (Terminal t) e v h = whole s v i (rw e tt)
@@ -61,6 +63,7 @@ are_cofactors s c i (Node w lo hi) e v h =
       | inr p ↦ let q : v < w = grind (arith, nat_tests) in rw p (whole s v i (rw e q))
     ]
 
+-- at the variable of its top a diagram's cofactors are smaller than the diagram
 pub cofactors_smaller : (s : Diagrams) → IsCanonical s → (i : Id) (top : Look) → top_of s i ≡ Some top → (v : ℕ) → v < limit → v ≡ var_of top
     → IsSmaller s i (low_of i top v) (high_of i top v)
 cofactors_smaller s c i (Terminal t) e v h q = absurd (omega arith)
@@ -76,16 +79,19 @@ low-value s c v i lo hi p a =
     p.splits (put a v false)
     ∙ (rw (put-same a v false) (value_at-put v (tree s lo) a false (tree-above s c v lo p.lo_above) (tree-reduced s c lo (live-above v _ p.lo_above))))
 
+-- where the variable is true, the whole has the value of its high cofactor
 pub high-value : (s : Diagrams) → IsCanonical s → (v : ℕ) (i lo hi : Id) → AreCofactors s v i lo hi → (a : Assignment) → eval s i (put a v true) ≡ eval s hi a
 unfolding eval
 high-value s c v i lo hi p a =
     p.splits (put a v true)
     ∙ (rw (put-same a v true) (value_at-put v (tree s hi) a true (tree-above s c v hi p.hi_above) (tree-reduced s c hi (live-above v _ p.hi_above))))
 
+-- a number below 2 ^ 32 is below the limit of variables
 pub small_var : (v : ℕ) → v < 2 ^ 32 → v < limit
 unfolding limit
 small_var v h = h
 
+-- the id of a node in the grown store is the branch of its children
 pub branch_made : (s n : Diagrams) (v : ℕ) (lo hi id : Id) → Keeps s n → IsNode s v lo hi → top_of n id ≡ Some (Node v lo hi) → IsBranch s n v lo hi id
 branch_made s n v lo hi id k node e = record {
   means = record {
@@ -99,6 +105,7 @@ branch_made s n v lo hi id k node e = record {
   above = λ w h. rw e h;
 }
 
+-- ids of different numbers differ
 pub ids_differ : (i j : Id) → eqb i.0 j.0 ≡ false → i ≡ j → ⊥
 ids_differ i j e q = let h : i.0 ≡ j.0 = ap (λ k. k.0) q in grind (arith, nat_tests)
 
@@ -107,6 +114,7 @@ pub record IsOnWay (s : Diagrams) (a : Assignment) (f at : Id) : Type 0 where
   pub live : IsLive s at
   pub value : eval s f a ≡ eval s at a
 
+-- the walk goes on from a node to the child that the assignment chooses
 pub way_on : (s : Diagrams) → IsCanonical s → (a : Assignment) (f at : Id) (v : ℕ) (lo hi : Id) (b : Bool) → IsOnWay s a f at → top_of s at ≡ Some (Node v lo hi) → a v ≡ b
     → IsOnWay s a f (if b then hi else lo)
 way_on s c a f at v lo hi true w e h =
@@ -114,6 +122,7 @@ way_on s c a f at v lo hi true w e h =
 way_on s c a f at v lo hi false w e h =
     record { live = live-above v _ ((c.nodes at v lo hi e).lo_above); value = w.value ∙ eval-node s c at v lo hi e a ∙ (rw h refl) }
 
+-- each child that the walk goes on to is smaller
 pub way_less : (s : Diagrams) → IsCanonical s → (at : Id) (v : ℕ) (lo hi : Id) (b : Bool) → top_of s at ≡ Some (Node v lo hi)
     → tree_size (tree s (if b then hi else lo)) < tree_size (tree s at)
 way_less s c at v lo hi true e = let size = ap tree_size (tree-node s c at v lo hi e) in omega (arith, size)

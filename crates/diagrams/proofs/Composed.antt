@@ -28,6 +28,7 @@ pub lo_over : (s : Diagrams) → IsCanonical s → (P : ℕ → Type 0) (v : ℕ
 lo_over s c P v f lo hi p d a b same =
     sym (low-value s c v f lo hi p a) ∙ d (put a v false) (put b v false) (λ w h. put-alike a b v false w (same w h)) ∙ low-value s c v f lo hi p b
 
+-- the high cofactor too depends on no further variables
 pub hi_over : (s : Diagrams) → IsCanonical s → (P : ℕ → Type 0) (v : ℕ) (f lo hi : Id) → AreCofactors s v f lo hi → DependsOn s f P → DependsOn s hi P
 hi_over s c P v f lo hi p d a b same =
     sym (high-value s c v f lo hi p a) ∙ d (put a v true) (put b v true) (λ w h. put-alike a b v true w (same w h)) ∙ high-value s c v f lo hi p b
@@ -50,6 +51,7 @@ obligation_cases p count v =
       ]
     ]
 
+-- the variable at the top of a diagram over obligations is an obligation's
 pub top_obligation : (s : Diagrams) → IsCanonical s → (count v : ℕ) (f lo hi : Id) → top_of s f ≡ Some (Node v lo hi) → IsOverObligations s count f → IsObligation s.props count v
 top_obligation s c count v f lo hi e d =
     elim (obligation_cases s.props count v) [
@@ -57,6 +59,7 @@ top_obligation s c count v f lo hi e d =
       | inr h ↦ h
     ]
 
+-- live diagrams of terminals 0 and 1 stay so as the store grows
 pub truths_last : (s n : Diagrams) → Keeps s n → (ids : List Id) → AllTruths s ids → AllTruths n ids
 truths_last s n k ids t j h = truth_lasts s n k (id_at ids j) (t j h)
 
@@ -74,6 +77,7 @@ pub composes-value : (s n : Diagrams) → Keeps s n → (ids : List Id) → AllT
 composes-value s n k ids t f l o a =
     eval-lasts s n k.was k.now k.extends f l (replaced n ids a) ∙ o (replaced n ids a) (replaced s ids a) (λ v h. replaced-lasts s n k ids t a v h)
 
+-- a live diagram over obligations stays one as the store grows
 pub over_lasts : (s n : Diagrams) → Keeps s n → (count : ℕ) (f : Id) → IsLive s f → IsOverObligations s count f → IsOverObligations n count f
 over_lasts s n k count f l o = DependsOn-lasts s n k f (λ p. IsObligation p count) l o
 
@@ -85,12 +89,15 @@ composed_now s n k ids t f i l o m = record {
   means = record { live = m.live; value = λ a. m.value a ∙ sym (composes-value s n k ids t f l o a) };
 }
 
+-- a result of a replacement stays right as the store grows
 pub composed_lasts : (s n : Diagrams) → Keeps s n → (ids : List Id) → AllTruths s ids → (f i : Id) → IsComposed s ids f i → IsComposed n ids f i
 composed_lasts s n k ids t f i c = composed_now s n k ids t f i c.live c.over (means_lasts s n k i _ c.means)
 
+-- the results of a replacement in a memo stay right as the store grows
 pub all_composed_last : (s n : Diagrams) → Keeps s n → (ids : List Id) → AllTruths s ids → (m : Memo Id) → AllKept same_id (IsComposed s ids) m → AllKept same_id (IsComposed n ids) m
 all_composed_last s n k ids t m r = kept_weaker same_id (IsComposed s ids) (IsComposed n ids) m (λ f i c. composed_lasts s n k ids t f i c) r
 
+-- the choice by a node's cell between the results on its children is the result on the node
 pub composed_step : (s0 s1 s2 s3 : Diagrams) → Keeps s0 s1 → Keeps s1 s2 → Keeps s2 s3 → (ids : List Id) → AllTruths s0 ids → (v : ℕ) (f lo hi new_lo new_hi id : Id)
     → top_of s0 f ≡ Some (Node v lo hi) → IsOverObligations s0 (length ids) f → Composes s0 s1 ids lo new_lo → Composes s1 s2 ids hi new_hi
     → (q : ℕ) → q ≡ s0.props → Gives s2 s3 (Ite (id_at ids (v - q)) new_hi new_lo) id
@@ -123,6 +130,7 @@ pub record Descends (s : Diagrams) (ids : List Id) (f lo hi : Id) (v : ℕ) : Ty
   pub lo_less : tree_size (tree s lo) < tree_size (tree s f)
   pub hi_less : tree_size (tree s hi) < tree_size (tree s f)
 
+-- the children of a node over obligations are smaller and over obligations too
 pub descends : (s : Diagrams) → IsCanonical s → (ids : List Id) (f lo hi : Id) (v : ℕ) → top_of s f ≡ Some (Node v lo hi) → IsOverObligations s (length ids) f → Descends s ids f lo hi v
 descends s c ids f lo hi v e o =
     let d = down s c f lo hi v e in
@@ -137,6 +145,7 @@ descends s c ids f lo hi v e o =
       hi_less = d.hi_less;
     }
 
+-- an obligation's variable, counted from the first obligation's, is below their number
 pub own_place : (p q count v : ℕ) → IsObligation p count v → q ≡ p → (q ≤ v) × (v - q < count)
 own_place p q count v h e = let a = h.0 in let b = h.1 in (omega arith, omega arith)
 

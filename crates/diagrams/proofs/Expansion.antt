@@ -35,6 +35,7 @@ node_own s c f v lo hi e l d =
     let k : v < v = rw e at h in
     absurd (omega arith)
 
+-- in a canonical store a top is the constant, or splits the diagram by its least variable
 pub shows : (s : Diagrams) → IsCanonical s → (f : Id) (top : Look) → top_of s f ≡ Some top → ExpandsAs s f top
 shows s c f (Terminal t) e = eval-terminal s f t e
 shows s c f (Node v lo hi) e =
@@ -58,5 +59,6 @@ vars_from_depends s c P cases f l d = all_vars_from_depends P cases (tree s f) (
 below_cases : (to v : ℕ) → (v < to → ⊥) ⊎ (v < to)
 below_cases to v = elim (cases_lt v to) [ inl h ↦ inr h | inr h ↦ inl (λ k. absurd (omega arith)) ]
 
+-- a diagram that depends on variables below a bound alone has no others
 pub vars_below : (s : Diagrams) → IsCanonical s → (to : ℕ) (f : Id) → IsLive s f → DependsOn s f (λ v. v < to) → AllVars (λ v. v < to) (tree s f)
 vars_below s c to f l d = vars_from_depends s c (λ v. v < to) (below_cases to) f l d

@@ -8,6 +8,7 @@ use Rattle.std.proofs.Math.Seq.{get_or-append_seam}
 use Rattle.std.proofs.lemmas.List.Elements.{Contains-append_left, Contains-append_right, Contains-push}
 use Rattle.diagrams.specs.Terminals.{with_new}
 
+-- whether the list has the number
 abbrev pub has_one : List ℕ → ℕ → Bool
 has_one xs y = list_any (λ x. x == y) xs
 
@@ -21,6 +22,7 @@ Contains-cons_cases : (x y : ℕ) (xs : List ℕ) → Contains (x ∷ xs) y → 
 Contains-cons_cases x y xs (zero, l, e) = inl e
 Contains-cons_cases x y xs (suc k, l, e) = inr (k, omega arith, e)
 
+-- a list contains a number that is found in it
 pub contains_true : (xs : List ℕ) (y : ℕ) → has_one xs y ≡ true → Contains xs y
 contains_true [] y e = absurd (cc)
 contains_true (x ∷ xs) y e =
@@ -29,6 +31,7 @@ contains_true (x ∷ xs) y e =
       | inr f ↦ Contains-tail x y xs (contains_true xs y (rw f at e))
     ]
 
+-- a list does not contain a number that is not found in it
 pub contains_false : (xs : List ℕ) (y : ℕ) → has_one xs y ≡ false → Contains xs y → ⊥
 contains_false [] y e (k, l, q) = absurd (omega arith)
 contains_false (x ∷ xs) y e h =
@@ -45,6 +48,7 @@ contains_false (x ∷ xs) y e h =
 abbrev pub with_one : List ℕ → ℕ → List ℕ
 with_one xs y = if has_one xs y then xs else xs ++ y ∷ []
 
+-- one more number that the list has changes nothing
 pub with_one-has : (xs : List ℕ) (y : ℕ) → Contains xs y → with_one xs y ≡ xs
 with_one-has xs y h =
     elim (cases_Bool (has_one xs y)) [
@@ -52,6 +56,7 @@ with_one-has xs y h =
       | inr f ↦ absurd (contains_false xs y f h)
     ]
 
+-- one more number that the list lacks goes to its end
 pub with_one-lacks : (xs : List ℕ) (y : ℕ) → (Contains xs y → ⊥) → with_one xs y ≡ xs ++ y ∷ []
 with_one-lacks xs y h =
     elim (cases_Bool (has_one xs y)) [
@@ -59,6 +64,7 @@ with_one-lacks xs y h =
       | inr f ↦ rw f refl
     ]
 
+-- with one more number the list keeps all that it has
 pub with_one-keeps : (xs : List ℕ) (y x : ℕ) → Contains xs x → Contains (with_one xs y) x
 with_one-keeps xs y x h =
     elim (cases_Bool (has_one xs y)) [
@@ -66,6 +72,7 @@ with_one-keeps xs y x h =
       | inr f ↦ rw f (Contains-append_left xs (y ∷ []) x h)
     ]
 
+-- with one more number the list has that number
 pub with_one-own : (xs : List ℕ) (y : ℕ) → Contains (with_one xs y) y
 with_one-own xs y =
     elim (cases_Bool (has_one xs y)) [
@@ -73,14 +80,17 @@ with_one-own xs y =
       | inr f ↦ rw f (Contains-push xs y)
     ]
 
+-- to gather one list after another is to gather the one and then the other
 pub with_new-append : (xs ys zs : List ℕ) → with_new xs (ys ++ zs) ≡ with_new (with_new xs ys) zs
 with_new-append xs [] zs = refl
 with_new-append xs (y ∷ ys) zs = with_new-append (with_one xs y) ys zs
 
+-- the numbers of a list stay in it as others are gathered
 pub with_new-keeps : (xs ys : List ℕ) (x : ℕ) → Contains xs x → Contains (with_new xs ys) x
 with_new-keeps xs [] x h = h
 with_new-keeps xs (y ∷ ys) x h = with_new-keeps (with_one xs y) ys x (with_one-keeps xs y x h)
 
+-- each number that is gathered is in the list
 pub with_new-own : (xs ys : List ℕ) (x : ℕ) → Contains ys x → Contains (with_new xs ys) x
 with_new-own xs [] x (k, l, e) = absurd (omega arith)
 with_new-own xs (y ∷ ys) x h =
@@ -95,6 +105,7 @@ with_new-has xs [] h = refl
 with_new-has xs (y ∷ ys) h =
     ap (λ zs. with_new zs ys) (with_one-has xs y (h y (Contains-head y ys))) ∙ with_new-has xs ys (λ x k. h x (Contains-tail y x ys k))
 
+-- to gather a list twice is to gather it once
 pub with_new-twice : (xs ys : List ℕ) → with_new xs (ys ++ ys) ≡ with_new xs ys
 with_new-twice xs ys = with_new-append xs ys ys ∙ with_new-has (with_new xs ys) ys (with_new-own xs ys)
 

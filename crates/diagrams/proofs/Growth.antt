@@ -14,6 +14,7 @@ pub record Adds (s n : Diagrams) (i : Id) (top : Look) : Type 0 where
   pub at : top_of n i ≡ Some top
   pub only : (j : Id) (m : Look) → top_of n j ≡ Some m → (top_of s j ≡ Some m) ⊎ ((j ≡ i) × (m ≡ top))
 
+-- what stands above a variable stands above it still as the store grows
 pub stands_lasts : (s n : Diagrams) → Extends s n → (v : ℕ) (i : Id) → StandsAbove s v i → StandsAbove n v i
 stands_lasts s n x v i h =
     let p = live_some (top_of s i) (live-above v (top_of s i) h) in
@@ -28,6 +29,7 @@ top_less w v (Some (Node x lo hi)) h k = omega arith
 pub stands_less : (s : Diagrams) (w v : ℕ) (i : Id) → w < v → StandsAbove s v i → StandsAbove s w i
 stands_less s w v i h k = top_less w v (top_of s i) h k
 
+-- what makes a node makes one still as the store grows
 pub node_lasts : (s n : Diagrams) → Extends s n → (v : ℕ) (lo hi : Id) → IsNode s v lo hi → IsNode n v lo hi
 node_lasts s n x v lo hi k = record {
   small = k.small;
@@ -48,6 +50,7 @@ adds_unique s n i top c a new j k m (inl p) (inr q) = absurd (new j (p ∙ ap (�
 adds_unique s n i top c a new j k m (inr p) (inl q) = absurd (new k (q ∙ ap (λ x. Some x) p.1))
 adds_unique s n i top c a new j k m (inr p) (inr q) = p.0 ∙ sym q.0
 
+-- a canonical store with a fitting top that it lacked is canonical
 pub adds_canonical : (s n : Diagrams) (i : Id) (top : Look) → IsCanonical s → Adds s n i top → IsFit s top → ((j : Id) → top_of s j ≡ Some top → ⊥)
     → IsCanonical n
 adds_canonical s n i top c a f new = record {

@@ -13,6 +13,7 @@ kept_weaker eq R Q m w r key id e = w key id (r key id e)
 pub kept_same : {K : Type 0} → (eq : K → K → Bool) (R : K → Id → Type 0) (m n : Memo K) → ((key : K) → kept eq n key ≡ kept eq m key) → AllKept eq R m → AllKept eq R n
 kept_same eq R m n same r key id e = r key id (sym (same key) ∙ e)
 
+-- two results that are there and the same are one id
 pub some_same : (x y : Id) → Some x ≡ Some y → x ≡ y
 some_same x y e = cc
 

@@ -31,6 +31,7 @@ length_if : (n : ℕ) (b : Bool) (xs ys zs : List ℕ) → length xs ≡ 2 ^ n �
 length_if n true xs ys zs e f g = length-twice n xs ys e f
 length_if n false xs ys zs e f g = length-twice n zs zs g g
 
+-- there is a value for each number of so many variables
 pub length-values : (n v : ℕ) (t : Tree) → length (values n v t) ≡ 2 ^ n
 length-values zero v t = refl
 length-values (suc n) v (Constant x) = length-twice n (values n (suc v) (Constant x)) (values n (suc v) (Constant x)) (length-values n (suc v) (Constant x)) (length-values n (suc v) (Constant x))
@@ -70,6 +71,7 @@ high_value : (to n v l : ℕ) (t : Tree) → v + suc n ≡ to → IsWindow to n 
 high_value to n v l t e w =
     value_at-agree v t (letter_truth to (2 ^ n + l)) (letter_truth to l) (starts_below v t w.starts) w.reduced (λ u h. later_same to n v l u e h)
 
+-- the value at each place of the list is the tree's at that letter
 abbrev pub Places : ℕ → ℕ → ℕ → Tree → Type 0
 Places to n v t = (l : ℕ) → l < 2 ^ n → get_or (values n v t) l 0 ≡ value_at t (letter_truth to l)
 

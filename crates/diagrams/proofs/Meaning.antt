@@ -49,6 +49,7 @@ tree_down : (s : Diagrams) → IsCanonical s → (v : ℕ) (i : Id) → StandsAb
 unfolding tree
 tree_down s c v i h = deeper s c v i h limit refl
 
+-- the tree of a node is the branch of its children's trees
 pub tree-node : (s : Diagrams) → IsCanonical s → (i : Id) (v : ℕ) (lo hi : Id) → top_of s i ≡ Some (Node v lo hi)
     → tree s i ≡ Branch v (tree s lo) (tree s hi)
 tree-node s c i v lo hi e =
@@ -56,6 +57,7 @@ tree-node s c i v lo hi e =
     let down : tree s i ≡ Branch v (tree_to limit s lo) (tree_to limit s hi) = unfold tree in rw e in
     down ∙ (rw (tree_down s c v lo k.lo_above, tree_down s c v hi k.hi_above))
 
+-- the tree of a terminal is the constant
 pub tree-terminal : (s : Diagrams) (i : Id) (t : ℕ) → top_of s i ≡ Some (Terminal t) → tree s i ≡ Constant t
 unfolding tree
 tree-terminal s i t e = rw e
@@ -65,6 +67,7 @@ above-top s c v i None e h = elim h [ ]
 above-top s c v i (Some (Terminal t)) e h = rw (tree-terminal s i t e) tt
 above-top s c v i (Some (Node w lo hi)) e h = rw (tree-node s c i w lo hi e) h
 
+-- the tree of an id that stands above v is above v
 pub tree-above : (s : Diagrams) → IsCanonical s → (v : ℕ) (i : Id) → StandsAbove s v i → IsAbove v (tree s i)
 tree-above s c v i h = above-top s c v i (top_of s i) refl h
 
@@ -77,6 +80,7 @@ top-above s c v i (Some (Node w lo hi)) e h k = rw (tree-node s c i w lo hi e) a
 pub stands_above : (s : Diagrams) → IsCanonical s → (v : ℕ) (i : Id) → IsLive s i → IsAbove v (tree s i) → StandsAbove s v i
 stands_above s c v i h k = top-above s c v i (top_of s i) refl h k
 
+-- what stands above a variable is live
 pub live-above : (v : ℕ) (o : Option Look) → IsTopAbove v o → IsSome o
 live-above v None h = elim h [ ]
 live-above v (Some (Terminal t)) h = refl
@@ -113,6 +117,7 @@ injective_at s c (Branch u a b) i j (Some (Node v lo hi)) (Some (Node w m g)) ei
     let hig : hi ≡ g = injective_at s c b hi g (top_of s hi) (top_of s g) refl refl (live-above _ _ ni.hi_above) (live-above _ _ nj.hi_above) (cc) (cc) in
     c.unique i j (Node w m g) (ei ∙ rw (vw, lom, hig)) ej
 
+-- live ids whose trees are equal are equal
 pub injective : (s : Diagrams) → IsCanonical s → (i j : Id) → IsLive s i → IsLive s j → tree s i ≡ tree s j → i ≡ j
 injective s c i j h k e = injective_at s c (tree s j) i j (top_of s i) (top_of s j) refl refl h k e refl
 
@@ -137,6 +142,7 @@ reduced_at s c (Branch u a b) i (Some (Node v lo hi)) e h d =
       reduced_at s c b hi (top_of s hi) refl live-hi hit,
     )
 
+-- each live id has a reduced tree
 pub tree-reduced : (s : Diagrams) → IsCanonical s → (i : Id) → IsLive s i → IsReduced (tree s i)
 tree-reduced s c i h = reduced_at s c (tree s i) i (top_of s i) refl h refl
 
@@ -167,23 +173,29 @@ lasts_at s n c d x (Branch u a b) i (Some (Node v lo hi)) e h q =
     let hi-new = lasts_at s n c d x b hi (top_of s hi) refl (live-above _ _ node.hi_above) hit in
     tree-node n d i v lo hi (x.tops i (Node v lo hi) e) ∙ rw (vu, lo-new, hi-new)
 
+-- a live id keeps its tree as the store grows
 pub tree-lasts : (s n : Diagrams) → IsCanonical s → IsCanonical n → Extends s n → (i : Id) → IsLive s i → tree n i ≡ tree s i
 tree-lasts s n c d x i h = lasts_at s n c d x (tree s i) i (top_of s i) refl h refl
 
+-- a live id keeps its value at each assignment as the store grows
 pub eval-lasts : (s n : Diagrams) → IsCanonical s → IsCanonical n → Extends s n → (i : Id) → IsLive s i → (a : Assignment) → eval n i a ≡ eval s i a
 unfolding eval
 eval-lasts s n c d x i h a = rw (tree-lasts s n c d x i h)
 
+-- a live id has a top
 pub live_some : (o : Option Look) → IsSome o → (n : Look) × (o ≡ Some n)
 live_some None h = absurd (cc)
 live_some (Some n) h = (n, refl)
 
+-- a live id stays live as the store grows
 pub live_lasts : (s n : Diagrams) → Extends s n → (i : Id) → IsLive s i → IsLive n i
 live_lasts s n x i h = let p = live_some (top_of s i) h in rw (x.tops i p.0 p.1) refl
 
+-- a store extends itself
 pub Extends_refl : (s : Diagrams) → Extends s s
 Extends_refl s = record { props = refl; tops = λ i n e. e }
 
+-- an extension of an extension extends the first store
 pub Extends_trans : (r s t : Diagrams) → Extends r s → Extends s t → Extends r t
 Extends_trans r s t x y = record { props = y.props ∙ x.props; tops = λ i n e. y.tops i n (x.tops i n e) }
 
@@ -193,21 +205,26 @@ pub eval-node : (s : Diagrams) → IsCanonical s → (i : Id) (v : ℕ) (lo hi :
 unfolding eval
 eval-node s c i v lo hi e a = rw (tree-node s c i v lo hi e)
 
+-- a terminal has its own value at each assignment
 pub eval-terminal : (s : Diagrams) (i : Id) (t : ℕ) → top_of s i ≡ Some (Terminal t) → (a : Assignment) → eval s i a ≡ t
 unfolding eval
 eval-terminal s i t e a = rw (tree-terminal s i t e)
 
+-- a call that makes a terminal makes the constant function
 pub means_terminal_ok : {E : Type 0} (r : Result Id E) (s : Diagrams) (t : ℕ) → IfOk r (λ id. top_of s id ≡ Some (Terminal t)) → IfOk r (λ id. Means s id (λ _. t))
 means_terminal_ok r s t =
     IfOk-weaker r (λ id. top_of s id ≡ Some (Terminal t)) (λ id. Means s id (λ _. t))
     (λ id e. record { live = rw e refl; value = λ a. eval-terminal s id t e a })
 
+-- a canonical store keeps what it has
 pub Keeps_refl : (s : Diagrams) → IsCanonical s → Keeps s s
 Keeps_refl s c = record { was = c; now = c; extends = Extends_refl s }
 
+-- what two steps in a row keep is kept by both together
 pub Keeps_trans : (r s t : Diagrams) → Keeps r s → Keeps s t → Keeps r t
 Keeps_trans r s t x y = record { was = x.was; now = y.now; extends = Extends_trans r s t x.extends y.extends }
 
+-- what is equal to an id's top is its top
 pub top_is : (s : Diagrams) (f : Id) (t u : Look) → top_of s f ≡ Some t → t ≡ u → top_of s f ≡ Some u
 top_is s f t u e q = e ∙ ap (λ w. Some w) q
 
@@ -218,6 +235,7 @@ truth_lasts s n k f t = record {
   truth = λ a. rw (eval-lasts s n k.was k.now k.extends f t.live a) (t.truth a);
 }
 
+-- an id that names a function names it still as the store grows
 pub means_lasts : (s n : Diagrams) → Keeps s n → (i : Id) (f : Assignment → ℕ) → Means s i f → Means n i f
 means_lasts s n k i f m = record { live = live_lasts s n k.extends i m.live; value = λ a. eval-lasts s n k.was k.now k.extends i m.live a ∙ m.value a }
 

@@ -130,6 +130,7 @@ pub record IsPaintStep (s : Diagrams) (from n : ℕ) (f lo hi : Id) (v : ℕ) : 
   pub lo_less : tree_size (tree s lo) < tree_size (tree s f)
   pub hi_less : tree_size (tree s hi) < tree_size (tree s f)
 
+-- the walk knows this at each node of a diagram over so many variables from `from` on
 pub paint_step : (s : Diagrams) → IsCanonical s → (from n : ℕ) (f lo hi : Id) (v : ℕ) → top_of s f ≡ Some (Node v lo hi) → AllVars (λ w. (from ≤ w) × (w < from + n)) (tree s f)
     → IsPaintStep s from n f lo hi v
 paint_step s c from n f lo hi v e vars =
@@ -148,6 +149,7 @@ paint_step s c from n f lo hi v e vars =
       hi_less = d.hi_less;
     }
 
+-- to put the cube of the path at the end is to paint a terminal
 pub painted_terminal : (s : Diagrams) (path : List ℕ) (from : ℕ) (f : Id) (x : ℕ) (xs : List Cube) (text : List ℕ) → top_of s f ≡ Some (Terminal x) → text ≡ cube_text path
     → xs ++ record { text = text; terminal = x } ∷ [] ≡ xs ++ painted path from (tree s f)
 painted_terminal s path from f x xs text e q =
@@ -158,6 +160,7 @@ pub path_back : (path first second : List ℕ) (i : ℕ) → first ≡ slice_set
 path_back path first second i e f =
     rw (f, e) (set-set (slice_set path i 48) i 49 (get_or path i 0) ∙ set-set path i 48 (get_or path i 0) ∙ set-get_or path i 0)
 
+-- to paint the low child and then the high one is to paint the node
 pub painted_node : (s : Diagrams) → IsCanonical s → (path first : List ℕ) (from : ℕ) (f lo hi : Id) (v : ℕ) (xs ys zs : List Cube) → top_of s f ≡ Some (Node v lo hi)
     → first ≡ slice_set path (v - from) 48 → ys ≡ xs ++ painted (slice_set path (v - from) 48) from (tree s lo) → zs ≡ ys ++ painted (slice_set first (v - from) 49) from (tree s hi)
     → zs ≡ xs ++ painted path from (tree s f)

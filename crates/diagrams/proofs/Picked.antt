@@ -245,6 +245,7 @@ pub record IsNumberStep (s : Diagrams) (to : ℕ) (f lo hi : Id) (v : ℕ) : Typ
   pub off : is_never (tree s lo) ≡ false → first_number to (tree s f) ≡ first_number to (tree s lo)
   pub fits : first_number to (tree s f) < 2 ^ 32
 
+-- the walk knows this at each node of a diagram over the last 32 variables before `to`
 pub number_step : (s : Diagrams) → IsCanonical s → (to : ℕ) (f lo hi : Id) (v : ℕ) → top_of s f ≡ Some (Node v lo hi) → IsLive s f → AllVars (λ w. (w < to) × (to ≤ w + 32)) (tree s f)
     → IsNumberStep s to f lo hi v
 number_step s c to f lo hi v e l vars =
@@ -274,11 +275,13 @@ pub picks : (s : Diagrams) → IsCanonical s → (from to : ℕ) (f : Id) → fr
 unfolding eval
 picks s c from to f range t st vs a = least_number from to (tree s f) range (tree-reduced s c f t.live) st vs t.truth a
 
+-- the number that is picked for a constant is 0
 pub picks_terminal : (s : Diagrams) → IsCanonical s → (from to : ℕ) (f : Id) (x : ℕ) → top_of s f ≡ Some (Terminal x) → from ≤ to → IsTruth s f → (a : Assignment) → IsLeastNumber from to (eval s f) a 0
 picks_terminal s c from to f x e range t a =
     let leaf = tree-terminal s f x e in
     rw leaf at (picks s c from to f range t (rw leaf tt) (rw leaf tt) a)
 
+-- the number of a node whose variable is `from` or later is the value to be made
 pub picks_node : (s : Diagrams) → IsCanonical s → (from to : ℕ) (f lo hi : Id) (v : ℕ) → top_of s f ≡ Some (Node v lo hi) → from ≤ v → from ≤ to → IsTruth s f → AllVars (λ w. w < to) (tree s f) → (a : Assignment)
     → IsLeastNumber from to (eval s f) a (first_number to (tree s f))
 picks_node s c from to f lo hi v e h range t vs a = picks s c from to f range t (rw (tree-node s c f v lo hi e) h) vs a
@@ -293,5 +296,6 @@ pub below_down : (s : Diagrams) → IsCanonical s → (to : ℕ) (f lo hi : Id) 
     → AllVars (λ w. w < to) (tree s lo) × AllVars (λ w. w < to) (tree s hi)
 below_down s c to f lo hi v e vs = let k = rw (tree-node s c f v lo hi e) at vs in (k.1, k.2)
 
+-- the variables of a live diagram are still before `to` as the store grows
 pub below_lasts : (s n : Diagrams) → Keeps s n → (to : ℕ) (f : Id) → IsLive s f → AllVars (λ w. w < to) (tree s f) → AllVars (λ w. w < to) (tree n f)
 below_lasts s n k to f l vs = rw (tree-lasts s n k.was k.now k.extends f l) vs

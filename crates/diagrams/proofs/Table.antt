@@ -22,22 +22,27 @@ flat : (o : Option Look) → option_flatten (option_map (λ x. Some x) o) ≡ o
 flat None = refl
 flat (Some x) = refl
 
+-- the store of these tops, each at its place
 abbrev pub plain : ℕ → List Look → Diagrams
 plain p xs = record { props = p; tops = map Some xs }
 
+-- the top of an id is what stands at its place
 pub top-plain : (p : ℕ) (xs : List Look) (i : Id) → top_of (plain p xs) i ≡ slice_get xs i.0
 unfolding top_of
 top-plain p xs i = rw (slice_get-map Some xs i.0) (flat (slice_get xs i.0))
 
+-- what stands in the list stands there still with one more at its end
 pub get-push_old : (xs : List Look) (n m : Look) (k : ℕ) → slice_get xs k ≡ Some m → slice_get (xs ++ n ∷ []) k ≡ Some m
 get-push_old [] n m k e = absurd (cc)
 get-push_old (x ∷ xs) n m zero e = e
 get-push_old (x ∷ xs) n m (suc k) e = get-push_old xs n m k e
 
+-- the one more stands after the others
 pub get-push_new : (xs : List Look) (n : Look) → slice_get (xs ++ n ∷ []) (length xs) ≡ Some n
 get-push_new [] n = refl
 get-push_new (x ∷ xs) n = get-push_new xs n
 
+-- what stands in the list with one more stood there before, or is the one more
 pub get-push_cases : (xs : List Look) (n m : Look) (k : ℕ) → slice_get (xs ++ n ∷ []) k ≡ Some m → (slice_get xs k ≡ Some m) ⊎ ((k ≡ length xs) × (m ≡ n))
 get-push_cases [] n m zero e = inr (refl, cc)
 get-push_cases [] n m (suc k) e = absurd (cc)
@@ -45,6 +50,7 @@ get-push_cases (x ∷ xs) n m zero e = inl e
 get-push_cases (x ∷ xs) n m (suc k) e =
     elim (get-push_cases xs n m k e) [ inl p ↦ inl p | inr p ↦ inr (ap suc p.0, p.1) ]
 
+-- to put one more top at the end adds it, at the id of that place
 pub push_adds : (p : ℕ) (xs : List Look) (n : Look) → Adds (plain p xs) (plain p (xs ++ n ∷ [])) (record { 0 = length xs }) n
 push_adds p xs n = record {
   extends = record {
@@ -59,6 +65,7 @@ push_adds p xs n = record {
       ];
 }
 
+-- ids of one number are one
 pub id_same : (i j : Id) → i.0 ≡ j.0 → i ≡ j
 id_same i j e = ap (λ k. record { 0 = k }) e
 
@@ -68,6 +75,7 @@ node_same v w l h m g a b c =
     let e : h ≡ g = id_same h g c in
     rw (a, d, e)
 
+-- tops that are found to be the same are equal
 pub same_true : (a b : Look) → same_look a b ≡ true → a ≡ b
 same_true (Terminal x) (Terminal y) e = ap Terminal (eqb-true x y e)
 same_true (Terminal x) (Node w m g) e = absurd (cc)
@@ -77,6 +85,7 @@ same_true (Node v l h) (Node w m g) e =
     let q = and_parts (eqb l.0 m.0) (eqb h.0 g.0) p.1 in
     node_same v w l h m g (eqb-true v w p.0) (eqb-true l.0 m.0 q.0) (eqb-true h.0 g.0 q.1)
 
+-- each top is found to be the same as itself
 pub same_refl : (a : Look) → same_look a a ≡ true
 same_refl (Terminal x) = eq-eqb x x refl
 same_refl (Node v l h) = rw (eq-eqb v v refl, eq-eqb l.0 l.0 refl, eq-eqb h.0 h.0 refl)
@@ -114,12 +123,14 @@ found_after s n i top f g a new found up j m e =
       | inr p ↦ up m ∙ (rw (p.0, p.1, same_refl top))
     ]
 
+-- each node that the table then finds is in the store
 pub known_after : (s n : Diagrams) (i : Id) (top : Look) (f g : Look → Option ℕ) → Adds s n i top
     → ((j : Id) (m : Look) → f m ≡ Some (j.0) → top_of s j ≡ Some m)
     → ((m : Look) → g m ≡ cond (same_look top m) (Some (i.0)) (f m))
     → (j : Id) (m : Look) → g m ≡ Some (j.0) → top_of n j ≡ Some m
 known_after s n i top f g a known up j m e = known_at s n i top f g a known j m (same_look top m) refl (sym (up m) ∙ e)
 
+-- a live id's number is a place of the list
 pub live_plain : (p : ℕ) (xs : List Look) (i : Id) → IsLive (plain p xs) i → (n : Look) × (slice_get xs i.0 ≡ Some n)
 live_plain p xs i h = live_some (slice_get xs i.0) (rw (top-plain p xs i) at h)
 
@@ -136,6 +147,7 @@ pub record Grows (a b : Inside) (top : Look) (id : ℕ) : Type 0 where
   pub extends : Extends (store_of a) (store_of b)
   pub at : top_of (store_of b) (record { 0 = id }) ≡ Some top
 
+-- a node that the table lacked, put at the end and into the table, makes the store grow
 pub grows : (a b : Inside) (top : Look) (id : ℕ) → HasUniqueTable a → IsFit (store_of a) top → hash.get same_look a.unique top ≡ None
     → b.props ≡ a.props → b.nodes.items ≡ a.nodes.items ++ top ∷ [] → id ≡ length a.nodes.items
     → ((m : Look) → hash.get same_look b.unique m ≡ cond (same_look top m) (Some id) (hash.get same_look a.unique m))
@@ -166,6 +178,7 @@ kept_same a b k p q r = record {
   known = λ i n e. rw (p, q) (k.known i n (rw r at e));
 }
 
+-- a list with one more is, without the last, the list itself
 pub pop_push : (xs : List Look) (n : Look) (k : ℕ) → k ≡ length xs + 1 → take (k - 1) (xs ++ n ∷ []) ≡ xs
 pop_push xs n k e = rw e (grind (arith, common_steps))
 
@@ -175,6 +188,7 @@ none a e i n q = let h : slice_get a.nodes.items i.0 ≡ Some n = sym (top-plain
 lost : (a : Inside) → a.unique.entries ≡ [] → (n : Look) (k : ℕ) → hash.get same_look a.unique n ≡ Some k → ⊥
 lost a e n k q = let h = rw e at q in absurd (cc)
 
+-- a store without nodes, with at most 32 propositions and an empty table, has a unique table
 pub kept_empty : (a : Inside) → a.props ≤ 32 → a.nodes.items ≡ [] → a.unique.entries ≡ [] → HasUniqueTable a
 kept_empty a h e u = record {
   few = h;

@@ -44,6 +44,7 @@ turned_lasts s n k Q f i t = record { live = live_lasts s n k.extends f t.live; 
 pub all_transformed_last : (s n : Diagrams) → Keeps s n → (Q : (Assignment → ℕ) → Assignment → ℕ → Type 0) (m : Memo Id) → AllKept same_id (IsTransformed s Q) m → AllKept same_id (IsTransformed n Q) m
 all_transformed_last s n k Q m r = kept_weaker same_id (IsTransformed s Q) (IsTransformed n Q) m (turned_lasts s n k Q) r
 
+-- what was made from a live diagram is what is made from it in the grown store
 pub turned : (s n : Diagrams) → Keeps s n → (Q : (Assignment → ℕ) → Assignment → ℕ → Type 0) (f i : Id) → IsLive s f → Transforms s n Q f i → IsTransformed n Q f i
 turned s n k Q f i h t = record { live = live_lasts s n k.extends f h; turns = transforms_now s n k Q f i h t }
 
@@ -67,6 +68,7 @@ branch_value : (Q : (Assignment → ℕ) → Assignment → ℕ → Type 0) (v :
 branch_value Q v local f lo hi split a true e y z p q = local hi f a z (λ b same. split b ∙ (rw (same ∙ e) refl)) q
 branch_value Q v local f lo hi split a false e y z p q = local lo f a y (λ b same. split b ∙ (rw (same ∙ e) refl)) p
 
+-- the branch of what is made from the children is what is made from the node
 pub transforms_branch : (s0 s1 s2 s3 : Diagrams) → Keeps s0 s1 → Keeps s1 s2 → Keeps s2 s3 → (Q : (Assignment → ℕ) → Assignment → ℕ → Type 0) (v : ℕ) → IsLocal v Q → (f lo hi new_lo new_hi id : Id)
     → top_of s0 f ≡ Some (Node v lo hi) → Transforms s0 s1 Q lo new_lo → Transforms s1 s2 Q hi new_hi → IsBranch s2 s3 v new_lo new_hi id → Transforms s0 s3 Q f id
 transforms_branch s0 s1 s2 s3 k0 k1 k2 Q v local f lo hi new_lo new_hi id e tlo thi b =
@@ -81,6 +83,7 @@ transforms_branch s0 s1 s2 s3 k0 k1 k2 Q v local f lo hi new_lo new_hi id e tlo 
       above = λ w h. b.above w (rw e at h);
     }
 
+-- whether a value is the table's item depends on the function's value at that assignment alone
 pub item_local : (table : List ℕ) (v : ℕ) → IsLocal v (IsTableItem table)
 item_local table v h g a x same q = q ∙ ap (slice_index table) (sym (same a refl))
 
@@ -93,6 +96,7 @@ pub record IsDown (s : Diagrams) (f lo hi : Id) (v : ℕ) : Type 0 where
   pub lo_fit : (g : ℕ) → ((a : Assignment) → eval s f a < g) → (a : Assignment) → eval s lo a < g
   pub hi_fit : (g : ℕ) → ((a : Assignment) → eval s f a < g) → (a : Assignment) → eval s hi a < g
 
+-- a recursion may use this of the children of each node
 pub down : (s : Diagrams) → IsCanonical s → (f lo hi : Id) (v : ℕ) → top_of s f ≡ Some (Node v lo hi) → IsDown s f lo hi v
 down s c f lo hi v e =
     let node = c.nodes f v lo hi e in
@@ -112,12 +116,15 @@ pub down_truth : (s : Diagrams) (f lo hi : Id) (v : ℕ) → IsDown s f lo hi v 
 down_truth s f lo hi v d t =
     (record { live = live-above v _ d.lo_above; truth = d.lo_fit 2 t.truth }, record { live = live-above v _ d.hi_above; truth = d.hi_fit 2 t.truth })
 
+-- the values of a live diagram stay below a bound as the store grows
 pub fit_later : (s n : Diagrams) → Keeps s n → (g : ℕ) (f : Id) → IsLive s f → ((a : Assignment) → eval s f a < g) → (a : Assignment) → eval n f a < g
 fit_later s n k g f h fit a = rw (eval-lasts s n k.was k.now k.extends f h a) (fit a)
 
+-- a live diagram stays smaller than a bound as the store grows
 pub less_later : (s n : Diagrams) → Keeps s n → (f : Id) (m : ℕ) → IsLive s f → tree_size (tree s f) < m → tree_size (tree n f) < m
 less_later s n k f m h l = rw (tree-lasts s n k.was k.now k.extends f h) l
 
+-- the terminal of a constant that stays below a bound is below it
 pub terminal_fit : (s : Diagrams) (g : ℕ) (f : Id) (x : ℕ) → top_of s f ≡ Some (Terminal x) → ((a : Assignment) → eval s f a < g) → x < g
 terminal_fit s g f x e fit =
     let a : Assignment = λ _. true in

@@ -24,10 +24,12 @@ stood s n x v i h k =
     let p = live_some (top_of s i) h in
     rw p.1 (rw (x.tops i p.0 p.1) at k)
 
+-- the diagrams of a work stay live as the store grows
 pub live_work : (s n : Diagrams) → Keeps s n → (w : Work) → IsLiveWork s w → IsLiveWork n w
 live_work s n k (Ite t y m) h = (live_lasts s n k.extends t h.0, live_lasts s n k.extends y h.1, live_lasts s n k.extends m h.2)
 live_work s n k (Combine op f g) h = (live_lasts s n k.extends f h.0, live_lasts s n k.extends g h.1)
 
+-- a work on live diagrams keeps its value as the store grows
 pub work_value-lasts : (s n : Diagrams) → Keeps s n → (w : Work) → IsLiveWork s w → (a : Assignment) → work_value n w a ≡ work_value s w a
 work_value-lasts s n k (Ite t y m) h a =
     rw (eval-lasts s n k.was k.now k.extends t h.0 a, eval-lasts s n k.was k.now k.extends y h.1 a, eval-lasts s n k.was k.now k.extends m h.2 a)
@@ -54,6 +56,7 @@ gives_lasts s n k w i g = record {
   above = λ v a. let h = g.above v a in let p = live_some (top_of s i) g.means.live in rw (k.extends.tops i p.0 p.1) (rw p.1 at h);
 }
 
+-- the result of a work stays right as the store grows
 pub done_lasts : (s n : Diagrams) → Keeps s n → (w : Work) (i : Id) → IsDone s w i → IsDone n w i
 done_lasts s n k w i d = record { live = live_work s n k w d.live; gives = gives_now s n k w i d.live (gives_lasts s n k w i d.gives) }
 
@@ -65,6 +68,7 @@ works_last s n k m r = kept_weaker same_work (IsDone s) (IsDone n) m (done_lasts
 pub done : (s n : Diagrams) → Keeps s n → (w : Work) (i : Id) → IsLiveWork s w → Gives s n w i → IsDone n w i
 done s n k w i l g = record { live = live_work s n k w l; gives = gives_now s n k w i l g }
 
+-- whether two operations are the same
 abbrev pub op_same : Op → Op → Bool
 op_same = (op_eq.ghosts).eq
 
@@ -106,9 +110,11 @@ op_true Greatest Or e = absurd (cc)
 op_true Greatest Iff e = absurd (cc)
 op_true Greatest Least e = absurd (cc)
 
+-- ids whose numbers are found to be the same are equal
 pub id_true : (i j : Id) → eqb i.0 j.0 ≡ true → i ≡ j
 id_true i j e = id_same i j (eqb-true i.0 j.0 e)
 
+-- works that are found to be the same are equal
 pub same_work_true : (a b : Work) → same_work a b ≡ true → a ≡ b
 same_work_true (Ite t y n) (Ite u z m) e =
     let p = and_parts (eqb t.0 u.0) (eqb y.0 z.0 && eqb n.0 m.0) e in
