@@ -2,6 +2,7 @@
 use mathlib.Core.Path.{fun_ext}
 use Rattle.std.proofs.Common.{◌≡◌, ℕ, zero, suc, ◌<◌, [], ◌∷◌, length, refl, sym, ◌∙◌, ap, ap₂, subst, inl, inr, arith, true, nat_lt}
 use Rattle.std.specs.Prelude.{◌==◌, ◌&&◌, ◌||◌, not}
+use Rattle.std.specs.Cmp.{both_ways}
 use Rattle.std.proofs.lemmas.Bool.{lt-ltb, le-ltb, cases_lt}
 use Rattle.bes_io.specs.Letter.{has}
 use Rattle.forms.specs.Word.{Word, Claim, IsOver, IsSuffix, whole, later, is_empty, same, some_suffix, every_suffix}
@@ -10,7 +11,7 @@ use Rattle.forms.specs.Paths.{WordRelation, reaches, one_step, turns, star}
 use Rattle.forms.specs.Tree.{Formula, Program, True, False, Atom, Not, And, Or, Implies, Iff, Next, WeakNext, Until, Release, Eventually, Always, Diamond, BoxAll, Step, Test, Choice, Seq, Star}
 use Rattle.forms.specs.Proper.{IsProper, IsProperProgram}
 use Rattle.forms.specs.Satisfaction.{sat, goes}
-use Rattle.forms.proofs.Suffixes.{both_ways, IsSuffix-trans, same-refl, same-true}
+use Rattle.forms.proofs.Suffixes.{IsSuffix-trans, same-refl, same-true}
 use Rattle.forms.proofs.Further.{IsSuffix-length}
 use Rattle.diagrams.specs.Eval.{Diagrams, eval, letter_truth}
 use Rattle.automata.specs.Moves.{location_after, accepts}
@@ -27,6 +28,7 @@ abbrev pub word_of : ℕ → Word → Word
 word_of p [] = []
 word_of p (a ∷ w) = letter_of p a ∷ word_of p w
 
+-- the word of those letters is over the propositions, whatever the numbers
 pub word_of-over : (p : ℕ) (w : Word) → IsOver p (word_of p w)
 word_of-over p [] = over-nil p
 word_of-over p (a ∷ w) = over-cons p (letter_of p a) (word_of p w) (spelt-less (letter_truth p a) p) (word_of-over p w)

@@ -23,6 +23,7 @@ pub record AreTargets (p : ℕ) (m : Moves) (at : ℕ) (letters : ℕ → ℕ) (
   pub rise : (d e : ℕ) → d < e → e < total → letters d < letters e
   pub all : (a : ℕ) → a < 2 ^ p → (e : ℕ) × (e < total) × (letters e ≤ a) × (m.next at (letters e) ≡ m.next at a)
 
+-- a search that has come to location k is at the first of its targets
 pub finding_begins : (p : ℕ) (m : Moves) (found : ℕ → ℕ) (word : ℕ → Word) (count k : ℕ) (letters : ℕ → ℕ) (total : ℕ)
     → k < count → IsSearching p m found word count k → IsFinding p m found word count k letters total 0
 finding_begins p m found word count k letters total h s = record {

@@ -75,6 +75,7 @@ letter_to-is s f xs t e l = by (cases_lt e (length xs))
 least_letter-le : (s : Diagrams) (f : Id) (x l a : ℕ) → IsLeastLetter s f x l → eval s f (letter_truth s.props a) ≡ x → l ≤ a
 least_letter-le s f x l a h e = elim (cases_lt a l) [ inl k ↦ absurd (h.least a k e) | inr k ↦ k ]
 
+-- what a list contains stands at some place of it
 pub contains_place : (xs : List ℕ) (x : ℕ) → Contains xs x → (k : ℕ) × (k < length xs) × (slice_index xs k ≡ x)
 contains_place [] x (k, l, e) = absurd (omega (arith, l))
 contains_place (y ∷ xs) x (zero, l, e) = (0, l, e)

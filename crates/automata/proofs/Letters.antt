@@ -30,6 +30,7 @@ abbrev pub spelt : Assignment → ℕ → ℕ
 spelt a zero = 0
 spelt a (suc n) = 2 * spelt a n + bit (a n)
 
+-- the number that the first n propositions spell is a letter over n propositions
 pub spelt-less : (a : Assignment) (n : ℕ) → spelt a n < 2 ^ n
 spelt-less a zero = omega arith
 spelt-less a (suc n) = let h = spelt-less a n in let b = bit-less (a n) in omega (arith, h, b)
@@ -51,6 +52,7 @@ spelt-shift a n (suc d) =
     ∙ ap (λ z. z / 2 ^ d) (spelt-half a (n + d))
     ∙ spelt-shift a n d
 
+-- the letter that an assignment spells has exactly the propositions that the assignment makes true
 pub spelt-truth : (a : Assignment) (p i : ℕ) → i < p → letter_truth p (spelt a p) i ≡ a i
 spelt-truth a p i h =
     let e : p ≡ suc i + (p - 1 - i) = omega (arith, h) in

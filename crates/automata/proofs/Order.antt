@@ -21,6 +21,7 @@ not_before-trans u v w h k =
       | inr x ↦ true≢false (sym q ∙ ap (λ z. comes_before z w) (before-neither u v h x) ∙ k)
     ])
 
+-- a further letter makes a word longer by one
 pub length-more : (u : Word) (a : ℕ) → length (u ++ a ∷ []) ≡ length u + 1
 length-more u a = length-append u (a ∷ [])
 
@@ -49,6 +50,7 @@ before-longer u a = before-shorter u (u ++ a ∷ []) (omega (arith, length-more 
 pub before-last : (u : Word) (a b : ℕ) → a < b → comes_before (u ++ a ∷ []) (u ++ b ∷ []) ≡ true
 before-last u a b h = before-letter u [] [] a b h refl
 
+-- where a word does not come before another, nor does it with one more letter after both
 pub not_before-more : (u v : Word) (a : ℕ) → comes_before u v ≡ false → comes_before (u ++ a ∷ []) (v ++ a ∷ []) ≡ false
 not_before-more u v a h =
     elim (cases_Bool (comes_before v u)) [

@@ -35,10 +35,12 @@ abbrev pub word_of : ℕ → Word → Word
 word_of p [] = []
 word_of p (a ∷ w) = letter_of p a ∷ word_of p w
 
+-- the word of those letters is over the propositions, whatever the numbers
 pub over-word_of : (p : ℕ) (w : Word) → IsOver p (word_of p w)
 over-word_of p [] = over-nil p
 over-word_of p (a ∷ w) = over-cons p (letter_of p a) (word_of p w) (spelt-less (letter_truth p a) p) (over-word_of p w)
 
+-- the word of those letters leads where the list of numbers leads
 pub location_after-word_of : (s : Diagrams) (t : Table) → Fits s t → (at : ℕ) (w : Word) → at < size_of t
     → location_after (moves_of s t) at (word_of s.props w) ≡ location_after (moves_of s t) at w
 location_after-word_of s t f at [] h = refl
@@ -74,6 +76,7 @@ module _ (s n : Diagrams) (t u : Table) (found places : List ℕ) (closed : t.fi
   here : (i : ℕ) → i < length found → slice_index found i < size_of t
   here i l = found-within s.props (moves_of s t) (slice_index found) h.word (length found) (length found) (fits_closed s t closed f) h.searching.searched i l
 
+  -- the renumbered automaton fits its store
   pub renumbered_fits : Fits n u
   renumbered_fits i l =
       let i2 : i < length found = omega (arith, l, r.length) in
@@ -107,16 +110,19 @@ module _ (s n : Diagrams) (t u : Table) (found places : List ℕ) (closed : t.fi
   size-is : size_of u ≡ length found
   size-is = r.length
 
+  -- the renumbered automaton is made of some of the other's locations
   pub renumbered_part : IsSubautomaton s.props (moves_of s t) (moves_of n u)
   renumbered_part =
       search_part s.props (moves_of s t) (moves_of n u) (slice_index found) h.word (fits_closed s t closed f)
       (rw (size-is) h.searching.searched) renamed
 
+  -- the renumbered automaton is numbered by its least words
   pub renumbered_numbers : IsNumbered s.props (moves_of n u)
   renumbered_numbers =
       search_numbers s.props (moves_of s t) (moves_of n u) (slice_index found) h.word (fits_closed s t closed f)
       (rw (size-is) h.searching.searched) renamed
 
+  -- the renumbered automaton has the other's marks after every list of numbers
   pub renumbered_marks : HaveSameMarks (moves_of n u) (moves_of s t)
   renumbered_marks w =
       sym (same_marks s n t u f renumbered_fits closed renumbered_part.closed.first k.extends.props

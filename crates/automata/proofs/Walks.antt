@@ -11,9 +11,11 @@ pub record IsAfter (s : Diagrams) (t : Table) (word : Word) (k at : ℕ) : Type 
   pub within : at < size_of t
   pub rest : location_after (moves_of s t) at (drop k word) ≡ location_after (moves_of s t) t.first word
 
+-- the rest of a word leads from a location where what follows its first letter leads from the next one
 pub after_step : (s : Diagrams) (t : Table) (word : Word) (k at : ℕ) → k < length word
     → location_after (moves_of s t) at (drop k word) ≡ location_after (moves_of s t) (next_of s t at (get_or word k 0)) (drop (k + 1) word)
 after_step s t word k at h = rw (add-one, drop-cons word k 0) refl
 
+-- once all letters are read, the rest of the word leads from a location to itself
 pub after_end : (s : Diagrams) (t : Table) (word : Word) (k at : ℕ) → length word ≤ k → location_after (moves_of s t) at (drop k word) ≡ at
 after_end s t word k at h = rw (drop_all k word h) refl
