@@ -95,9 +95,11 @@ continued-settled : (s : Diagrams) (m : Configuration) → IsSettled s m → (f 
 continued-settled s m same f c w v o q e =
     continued s m f c w v o q e ∙ ap (λ x. mark_of m.automaton x == 1) (stays s m.automaton m.location same v)
 
+-- where all letters lead back and the mark is 1, the verdict is permanently true
 pub perm_true : (s : Diagrams) (m : Configuration) → IsSettled s m → (mark_of m.automaton m.location == 1) ≡ true → HasVerdict s m PermTrue
 perm_true s m same met f c w o e v q = continued-settled s m same f c w v o q e ∙ met
 
+-- where all letters lead back and the mark is not 1, the verdict is permanently false
 pub perm_false : (s : Diagrams) (m : Configuration) → IsSettled s m → (mark_of m.automaton m.location == 1) ≡ false → HasVerdict s m PermFalse
 perm_false s m same met f c w o e v q = continued-settled s m same f c w v o q e ∙ met
 
@@ -112,6 +114,7 @@ mark_small s m r v o =
     r.marks (location_after (moves_of s m.automaton) m.location v)
     (location_after-within s.props (moves_of s m.automaton) r.least.closed m.location v r.within o)
 
+-- where not all letters lead back and the mark is 1, the verdict is true for now
 pub temp_true : (s : Diagrams) (m : Configuration) → IsReady s m → (IsSettled s m → ⊥) → (mark_of m.automaton m.location == 1) ≡ true → HasVerdict s m TempTrue
 temp_true s m r varies met f c w o e =
     let d = unsettled s m r varies in (
@@ -119,6 +122,7 @@ temp_true s m r varies met f c w o e =
       (d.word, d.over, continued s m f c w d.word o d.over e ∙ other_false _ _ (mark_small s m r d.word d.over) d.differ met),
     )
 
+-- where not all letters lead back and the mark is not 1, the verdict is false for now
 pub temp_false : (s : Diagrams) (m : Configuration) → IsReady s m → (IsSettled s m → ⊥) → (mark_of m.automaton m.location == 1) ≡ false → HasVerdict s m TempFalse
 temp_false s m r varies met f c w o e =
     let d = unsettled s m r varies in (
@@ -136,6 +140,7 @@ ready_at s v m at view ready h =
     let r : IsReady s v = subst (λ z. IsReady s z) (sym view) ready in
     record { fits = r.fits; marks = r.marks; least = r.least; within = h }
 
+-- a letter moves the monitor to the location that the row gives for it
 pub moved_to : (s : Diagrams) (v m : Configuration) (letter at : ℕ) → v ≡ m → at ≡ next_of s v.automaton v.location letter → IsMovedBy s m (at_location v at) letter
 moved_to s v m letter at view next w o e = moved s v letter w o (subst (λ z. LeadsTo s z w) (sym view) e) ∙ sym next
 
