@@ -41,6 +41,7 @@ first-last op b here x y n i d e s h l f =
     let o : i < length x = omega arith in
     rw (f, ← m) (first-step op b (binary_now op (get_or x i d) (get_or y i e) b) x y i d e o l)
 
+-- the same step keeps the whole column: the part still to be found, and after it the part that is written
 pub column-last : (op : Binary) (b here : Bool) (x y : List Bool) (n i : ℕ) (d e : Bool) → i + 1 ≡ n → n ≤ length x → length x ≡ length y
     → here ≡ binary_now op (get_or x i d) (get_or y i e) b
     → column op here (take i (set x i here)) (take i y) ++ drop i (set x i here) ≡ column op b (take n x) (take n y) ++ drop n x
@@ -74,6 +75,7 @@ handed-last op b k here x n i d s h f =
     let o : i < length x = omega arith in
     rw (f, ← m) (handed-step op b here x i d o)
 
+-- the step of one operand keeps the whole column: the part to be found, and after it the part written
 pub changed-last : (op : Unary) (b k here : Bool) (x : List Bool) (n i : ℕ) (d : Bool) → i + 1 ≡ n → n ≤ length x
     → k ≡ unary_handed_on op (get_or x i d) b → here ≡ unary_now op (get_or x i d) b
     → changed op k (take i (set x i here)) ++ drop i (set x i here) ≡ changed op b (take n x) ++ drop n x
@@ -82,25 +84,30 @@ changed-last op b k here x n i d s h f g =
     let o : i < length x = omega arith in
     rw (f, g, ← m) (changed-step op b x i d o)
 
+-- a column of two operands of one length has that length
 pub length-column : (op : Binary) (b : Bool) (x y : List Bool) → length x ≡ length y → length (column op b x y) ≡ length x
 length-column op b [] y h = refl
 length-column op b (x ∷ xs) [] h = absurd (omega arith)
 length-column op b (x ∷ xs) (y ∷ ys) h = let m : length xs ≡ length ys = omega arith in ap suc (length-column op b xs ys m)
 
+-- a column of one operand is as long as the operand's
 pub length-changed : (op : Unary) (b : Bool) (x : List Bool) → length (changed op b x) ≡ length x
 length-changed op b [] = refl
 length-changed op b (x ∷ xs) = ap suc (length-changed op b xs)
 
+-- the last value of a list is the one put at its end
 pub last-push : (xs : List Bool) (x : Bool) → last (xs ++ x ∷ []) ≡ x
 last-push [] x = refl
 last-push (y ∷ []) x = refl
 last-push (y ∷ z ∷ zs) x = last-push (z ∷ zs) x
 
+-- a list with one more value at its end is the list itself without that last value
 pub without_last-push : (xs : List Bool) (x : Bool) → without_last (xs ++ x ∷ []) ≡ xs
 without_last-push [] x = refl
 without_last-push (y ∷ []) x = refl
 without_last-push (y ∷ z ∷ zs) x = ap (λ t. y ∷ t) (without_last-push (z ∷ zs) x)
 
+-- how long the columns are
 pub ruleset lengths = (length-column, length-changed)
 
 -- the step of a star's loop from n to i, the places below n still saying whether the next position is good
@@ -139,6 +146,7 @@ turns-more b next good xs later p s t n i d r steps h l left done nx fs g leads 
       follows ∙ rw (e, fs) (sym q.1),
     )
 
+-- a write at a place leaves the places before it as they were at first
 pub left-fewer : (xs later : List Bool) (n i : ℕ) (v : Bool) → i + 1 ≡ n → take n xs ≡ take n later → take i (set xs i v) ≡ take i later
 left-fewer xs later n i v s e =
     let below : i ≤ n = omega arith in

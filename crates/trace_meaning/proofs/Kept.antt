@@ -5,6 +5,7 @@ use Rattle.std.specs.Prelude.{◌&&◌, ◌||◌, not}
 use Rattle.std.proofs.lemmas.List.{drop-drop, take-append-drop, length-take, length-drop}
 use Rattle.std.proofs.Math.Seq.{drop-length}
 use Rattle.std.proofs.Math.Nat.{mod-eq_of_lt}
+use Rattle.std.proofs.Math.Bool.{and_comm, or_comm}
 use Rattle.forms.specs.Word.{Word, Claim, is_empty}
 use Rattle.forms.specs.Operators.{atom}
 use Rattle.forms.specs.Paths.{WordRelation, reaches, reaches_further, one_step, star}
@@ -93,26 +94,14 @@ both-step : (f k : Claim) (w u : Word) → both (column_of f w u) (next_column_o
 both-step f k [] u = refl
 both-step f k (a ∷ w) u = rw (both-step f k w u, reaches_further-step f k a (w ++ u)) refl
 
-and_swapped : (x y : Bool) → (x && y) ≡ (y && x)
-and_swapped true true = refl
-and_swapped true false = refl
-and_swapped false true = refl
-and_swapped false false = refl
-
-or_swapped : (x y : Bool) → (x || y) ≡ (y || x)
-or_swapped true true = refl
-or_swapped true false = refl
-or_swapped false true = refl
-or_swapped false false = refl
-
--- where two paths lead ahead from a block, the one after the other
+-- where two paths lead further from a block, the one after the other
 seq-column_of : (q r : WordRelation) (k : Claim) → IsInward r → (w u : Word)
     → one_of (column_of (reaches_further q (reaches r k)) w u) (both (column_of (reaches_further r k) w u) (column_of (λ v. q v v) w u))
     ≡ column_of (reaches_further (λ m v. reaches q (λ n. r n v) m) k) w u
 seq-column_of q r k inward w u =
     ap (one_of (column_of (reaches_further q (reaches r k)) w u)) (both-column_of (reaches_further r k) (λ v. q v v) w u)
     ∙ one_of-column_of (reaches_further q (reaches r k)) (λ v. reaches_further r k v && q v v) w u
-    ∙ column_of-agree _ _ (λ v. ap (λ x. reaches_further q (reaches r k) v || x) (and_swapped (reaches_further r k v) (q v v)) ∙ sym (reaches_further-seq q r k inward v)) w u
+    ∙ column_of-agree _ _ (λ v. ap (λ x. reaches_further q (reaches r k) v || x) (and_comm (reaches_further r k v) (q v v)) ∙ sym (reaches_further-seq q r k inward v)) w u
 
 -- whether the second path leads on well from the next position
 rest-column_of : (r : WordRelation) (k : Claim) (w u : Word)
@@ -120,7 +109,7 @@ rest-column_of : (r : WordRelation) (k : Claim) (w u : Word)
     ≡ next_column_of (reaches r k) w u
 rest-column_of r k w u =
     rw (changed-next (reaches_further r k) w u, changed-next (λ v. r v v) w u, both-next_column_of (λ v. r v v) k w u, one_of-next_column_of (λ v. r v v && k v) (reaches_further r k) w u)
-    (next_column_of-agree _ _ (λ v. or_swapped (r v v && k v) (reaches_further r k v) ∙ sym (reaches-split r k v)) w u)
+    (next_column_of-agree _ _ (λ v. or_comm (r v v && k v) (reaches_further r k v) ∙ sym (reaches-split r k v)) w u)
 
 first_lead-column_of : (r : WordRelation) (k : Claim) (w u : Word)
     → first_lead (record { further = reaches_further r k u; stays = r u u }) (column_of (reaches_further r k) w u) (column_of (λ v. r v v) w u) ≡ leading r k (w ++ u)
@@ -132,7 +121,7 @@ through-column_of : (q : WordRelation) (k : Claim) (w u : Word)
 through-column_of q k w u =
     ap (λ x. one_of x (column_of (reaches_further q k) w u)) (both-column_of k (λ v. q v v) w u)
     ∙ one_of-column_of (λ v. k v && q v v) (reaches_further q k) w u
-    ∙ column_of-agree _ _ (λ v. ap (λ x. x || reaches_further q k v) (and_swapped (k v) (q v v)) ∙ or_swapped (q v v && k v) (reaches_further q k v) ∙ sym (reaches-split q k v)) w u
+    ∙ column_of-agree _ _ (λ v. ap (λ x. x || reaches_further q k v) (and_comm (k v) (q v v)) ∙ or_comm (q v v && k v) (reaches_further q k v) ∙ sym (reaches-split q k v)) w u
 
 module _ (p : ℕ) (h : p ≤ 32) where
   -- every end of the path has f where none lacks it
@@ -148,6 +137,7 @@ module _ (p : ℕ) (h : p ≤ 32) where
       rw (e, bits-column_of i w u) refl
 
   mutual
+    -- the values found from what is kept after a block are the formula's at its letters
     pub values-kept : (f : Formula) (w u : Word) → values w (kept p f u) ≡ column_of (sat p f) w u
     values-kept True w u = column_of-constant true w u
     values-kept False w u = column_of-constant false w u
@@ -176,6 +166,7 @@ module _ (p : ℕ) (h : p ≤ 32) where
           through-column_of (goes p r) (sat p (Not f)) w u,
         ) (changed-column_of unary.Not (sat p (BoxAll r f)) (sat p (BoxAll r f)) (reaches (goes p r) (sat p (Not f))) (λ a v. box-not r f (a ∷ v)) (λ a v. box-not r f (a ∷ v)) w u)
 
+    -- whether the path leads further to a good position is found rightly at each letter
     pub further_column-kept : (q : Program) (k : Claim) (w u : Word) → further_column w (next_column_of k w u) (path_kept p q k [] u) ≡ column_of (reaches_further (goes p q) k) w u
     further_column-kept (Step f) k w u = rw (values-kept f w u) (both-step (sat p f) k w u)
     further_column-kept (Test f) k w u = column_of-constant false w u ∙ column_of-agree _ _ (λ v. sym (reaches_further-test (sat p f) k v)) w u
@@ -188,6 +179,7 @@ module _ (p : ℕ) (h : p ≤ 32) where
     further_column-kept (Star q) k w u =
         rw (marked-kept q (reaches (star (goes p q)) k) w u) ((turns-kept p q k w [] u (path_kept p q (reaches (star (goes p q)) k) w u) refl).0)
 
+    -- whether the path leads to the position itself is found rightly at each letter
     pub stays-kept : (q : Program) (k : Claim) (w u : Word) → stays w (path_kept p q k [] u) ≡ column_of (λ v. goes p q v v) w u
     stays-kept (Step f) k w u = column_of-constant false w u ∙ column_of-agree _ _ (λ v. sym (stays-step (sat p f) v)) w u
     stays-kept (Test f) k w u = values-kept f w u ∙ column_of-agree _ _ (λ v. sym (stays-test (sat p f) v)) w u
@@ -197,6 +189,7 @@ module _ (p : ℕ) (h : p ≤ 32) where
         (both-column_of (λ v. goes p q v v) (λ v. goes p r v v) w u ∙ column_of-agree _ _ (λ v. sym (stays-seq (goes p q) (goes p r) (IsInward-goes p r) v)) w u)
     stays-kept (Star q) k w u = column_of-constant true w u ∙ column_of-agree _ _ (λ v. sym (stays-star (goes p q) v)) w u
 
+    -- a path that is marked with a block is what is kept of it once its formulas have read the block
     pub marked-kept : (q : Program) (k : Claim) (w u : Word) → marked w (path_kept p q k [] u) ≡ path_kept p q k w u
     marked-kept (Step f) k w u = rw (moved-kept f w u, values-kept f w u) refl
     marked-kept (Test f) k w u = rw (moved-kept f w u, values-kept f w u) refl
@@ -204,6 +197,7 @@ module _ (p : ℕ) (h : p ≤ 32) where
     marked-kept (Seq q r) k w u = rw (marked-kept q (reaches (goes p r) k) w u, marked-kept r k w u) refl
     marked-kept (Star q) k w u = rw (marked-kept q (reaches (star (goes p q)) k) w u) refl
 
+    -- what is kept of a formula after a block becomes what is kept before the block
     pub moved-kept : (f : Formula) (w u : Word) → moved w (kept p f u) ≡ kept p f (w ++ u)
     moved-kept True w u = refl
     moved-kept False w u = refl
@@ -236,6 +230,7 @@ module _ (p : ℕ) (h : p ≤ 32) where
           handed-column_of unary.Not (sat p (BoxAll r f)) (sat p (BoxAll r f)) (reaches (goes p r) (sat p (Not f))) (λ a v. box-not r f (a ∷ v)) (λ a v. box-not r f (a ∷ v)) w u,
         ) refl
 
+    -- what is kept of a path after a block becomes what is kept before the block
     pub path_moved-kept : (q : Program) (k : Claim) (w u : Word) → path_moved w (next_column_of k w u) (path_kept p q k [] u) ≡ path_kept p q k [] (w ++ u)
     path_moved-kept (Step f) k w u = rw (moved-kept f w u) refl
     path_moved-kept (Test f) k w u = rw (moved-kept f w u) refl
@@ -263,6 +258,7 @@ first-value : (f : Claim) (w u : Word) (d : Bool) → 0 < length w → get_or (c
 first-value f [] u d l = absurd (omega arith)
 first-value f (a ∷ w) u d l = refl
 
+-- the first value over the letters from i to before j is the formula's at letter i
 pub value-block : (p : ℕ) → p ≤ 32 → (f : Formula) (w : Word) (i j : ℕ) (d : Bool) → i < j → j ≤ length w
     → get_or (values (take (j - i) (drop i w)) (kept p f (drop j w))) 0 d ≡ sat p f (drop i w)
 value-block p h f w i j d l m =
@@ -272,4 +268,5 @@ value-block p h f w i j d l m =
     ∙ first-value (sat p f) (take (j - i) (drop i w)) (drop j w) d some
     ∙ ap (λ t. sat p f t) (part-append w i j k)
 
+-- blocks of a word, as the loop of `judge` takes them
 pub ruleset judging = (moved-block, value-block, drop-length)

@@ -1,4 +1,4 @@
--- Where paths lead from each position of a block: ahead to a good position, and to the position itself.
+-- Where paths lead from each position of a block: further to a good position, and to the position itself.
 use Rattle.std.specs.Prelude.{List, Bool, false}
 use Rattle.trace_meaning.specs.declared.operator.Unary.TheVariants as unary
 use Rattle.trace_meaning.specs.declared.operator.Binary.TheVariants as binary

@@ -38,8 +38,8 @@ first_or b [] = b
 first_or b (x ∷ xs) = x
 
 abbrev mutual
-  -- whether turns of the path lead ahead from each position of a block; `later` says of each whether
-  -- the next one is good, and b whether turns lead ahead from the position after the block
+  -- whether turns of the path lead further from each position of a block; `later` says of each whether
+  -- the next one is good, and b whether turns lead further from the position after the block
   pub turns_further : Bool → List Bool → PathState → List Bool
   turns_further b [] p = []
   turns_further b (l ∷ later) p =
