@@ -1,6 +1,0 @@
-use Rattle.std.proofs.Common.{◌<◌}
-use Rattle.automata.specs.Table.{size_of}
-use Rattle.library_tests.proofs.automata_tests.location_after.Given as goal
-
-abbrev pub invariant-loop-letter : goal.invariant-loop-letter
-invariant-loop-letter l = l.at < size_of l.made

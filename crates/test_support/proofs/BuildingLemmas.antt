@@ -1,0 +1,53 @@
+-- Rows that go by one proposition, and tables of them.
+use Rattle.std.proofs.Common.{◌≡◌, ◌<◌, ◌≤◌, ◌+◌, ◌++◌, ℕ, zero, suc, List, [], ◌∷◌, Bool, true, false, refl, sym, ◌∙◌, ap, subst, arith, inl, inr, length, length-append, Result, Ok, Err, if◌then◌else◌}
+use Rattle.std.specs.Prelude.{slice_index_or, IfOk}
+use Rattle.std.proofs.lemmas.List.{get_or_append_left, get_or_at}
+use Rattle.diagrams.specs.declared.top.Id.{Id}
+use Rattle.diagrams.specs.Tree.{Assignment}
+use Rattle.diagrams.specs.Branch.{split_value}
+use Rattle.diagrams.specs.Eval.{Diagrams, eval}
+use Rattle.diagrams.specs.Live.{Keeps, Means}
+use Rattle.automata.specs.Table.{IsRow}
+use Rattle.automata.proofs.Lasts.{row_lasts}
+use Rattle.automata.proofs.FindingLemmas.{place_cases}
+use Rattle.test_support.proofs.DiagramLemmas.{constant_depends}
+
+-- the row that always goes to one location
+pub constant_row : (s : Diagrams) (size : ℕ) (i : Id) (x : ℕ) → x < size → Means s i (λ _. x) → IsRow s size i
+constant_row s size i x h m = record { live = m.live; letters = constant_depends s i x (λ v. v < s.props) m; targets = λ a. rw (m.value a) h }
+
+one_less : (b : Bool) (x y size : ℕ) → x < size → y < size → (if b then y else x) < size
+one_less true x y size h k = k
+one_less false x y size h k = h
+
+-- a row that goes by one proposition
+pub split_row : (s n : Diagrams) (size var x y : ℕ) (lo hi id : Id) → Means s lo (λ _. x) → Means s hi (λ _. y) → x < size → y < size → var < n.props
+    → Means n id (split_value s var lo hi) → IsRow n size id
+split_row s n size var x y lo hi id l r h k v m = record {
+  live = m.live;
+  letters = λ a b same. both a ∙ ap (λ c. if c then y else x) (same var v) ∙ sym (both b);
+  targets = λ a. rw (both a) (one_less (a var) x y size h k);
+}
+  where
+    both : (a : Assignment) → eval n id a ≡ (if a var then y else x)
+    both a = m.value a ∙ (λ d. if a var then r.value a d else l.value a d)
+
+-- the first so many rows are rows
+abbrev pub AreGood : Diagrams → ℕ → List Id → ℕ → Type 0
+AreGood s size rows count = (length rows ≡ count) × ((k : ℕ) → k < count → IsRow s size (slice_index_or rows k (record { 0 = 0 })))
+
+-- one row more
+pub good_more : (s n : Diagrams) (size : ℕ) (rows : List Id) (count : ℕ) (id : Id) → Keeps s n → AreGood s size rows count → IsRow n size id → AreGood n size (rows ++ id ∷ []) (count + 1)
+good_more s n size rows count id k g r = (
+  length-append rows (id ∷ []) ∙ ap (λ z. z + 1) g.0,
+  λ i l. elim (place_cases i count l) [
+    | inl h ↦ rw (get_or_append_left rows (id ∷ []) (record { 0 = 0 }) i (rw (g.0) h)) (row_lasts s n k size _ (g.1 i h))
+    | inr h ↦ let at : slice_index_or (rows ++ id ∷ []) i (record { 0 = 0 }) ≡ id = rw (h, ← g.0) (get_or_at rows id [] (record { 0 = 0 }) (length rows) refl) in rw (at) r
+  ],
+)
+
+-- such a row, where memory was found
+pub split_ok : {E : Type 0} (s n : Diagrams) (last var x y : ℕ) (lo hi : Id) → Means s lo (λ _. x) → Means s hi (λ _. y) → x ≤ last → y ≤ last → var < n.props
+    → (r : Result Id E) → IfOk r (λ id. Means n id (split_value s var lo hi)) → IfOk r (λ row. (size : ℕ) → last < size → IsRow n size row)
+split_ok s n last var x y lo hi l r h k v (Err e) m = tt
+split_ok s n last var x y lo hi l r h k v (Ok id) m = λ size w. split_row s n size var x y lo hi id l r (omega (arith, h, w)) (omega (arith, k, w)) v m

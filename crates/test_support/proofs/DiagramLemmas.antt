@@ -1,0 +1,70 @@
+-- Small functions, and operations on them.
+use Rattle.std.proofs.Common.{◌≡◌, ℕ, ◌<◌, ◌≤◌, ◌+◌, ◌*◌, arith, Bool, true, false, if◌then◌else◌, refl, sym, ◌∙◌, ap, Result, IfOk, List, [], ◌∷◌, zero, suc, length}
+use Rattle.std.proofs.lemmas.Result.{IfOk-weaker}
+use Rattle.diagrams.specs.declared.top.Id.{Id}
+use Rattle.diagrams.specs.declared.work.Op.{Op}
+use Rattle.diagrams.specs.declared.work.Op.TheVariants.{Pair}
+use Rattle.diagrams.specs.Tree.{Assignment}
+use Rattle.diagrams.specs.Eval.{Diagrams, eval, DependsOn, literal_value}
+use Rattle.diagrams.specs.Live.{IsLive, IsTruth, Keeps, Means}
+use Rattle.diagrams.specs.Work.{CanApply, CanCombine, applied, combined_value}
+use Rattle.diagrams.specs.Composed.{AllTruths, IsOverObligations, IsObligation}
+use Rattle.diagrams.specs.Eval.{id_at}
+use Rattle.diagrams.proofs.Meaning.{eval-lasts, truth_lasts, means_lasts}
+
+-- a constant depends on nothing
+pub constant_depends : (s : Diagrams) (i : Id) (x : ℕ) (P : ℕ → Type 0) → Means s i (λ _. x) → DependsOn s i P
+constant_depends s i x P m a b same = m.value a ∙ sym (m.value b)
+
+-- nor does it when the store has grown
+pub constant_over : (s n : Diagrams) → Keeps s n → (i : Id) (x : ℕ) (P : ℕ → Type 0) → Means s i (λ _. x) → DependsOn n i P
+constant_over s n k i x P m = constant_depends n i x P (means_lasts s n k i (λ _. x) m)
+
+choice_small : (b : Bool) → (if b then 1 else 0) < 2
+choice_small true = omega arith
+choice_small false = omega arith
+
+-- the function that is 1 where a variable is true has the terminals 0 and 1
+pub variable_truth : {E : Type 0} (r : Result Id E) (n : Diagrams) (v : ℕ) → IfOk r (λ id. Means n id (literal_value v)) → IfOk r (IsTruth n)
+variable_truth r n v =
+    IfOk-weaker r (λ id. Means n id (literal_value v)) (IsTruth n) (λ id m. record { live = m.live; truth = λ a. rw (m.value a) (choice_small (a v)) })
+
+-- and it depends on that variable alone
+pub variable_over : {E : Type 0} (r : Result Id E) (n : Diagrams) (v : ℕ) → IfOk r (λ id. Means n id (literal_value v)) → IfOk r (λ id. DependsOn n id (λ w. w ≡ v))
+variable_over r n v =
+    IfOk-weaker r (λ id. Means n id (literal_value v)) (λ id. DependsOn n id (λ w. w ≡ v))
+    (λ id m a b same. m.value a ∙ ap (λ c. if c then 1 else 0) (same v refl) ∙ sym (m.value b))
+
+-- a function that depends on some variables depends on more
+pub over_weaker : (s : Diagrams) (i : Id) (P Q : ℕ → Type 0) → ((v : ℕ) → P v → Q v) → DependsOn s i P → DependsOn s i Q
+over_weaker s i P Q w d a b same = d a b (λ v h. same v (w v h))
+
+-- what a function depends on stays when the store grows
+pub over_later : (s n : Diagrams) → Keeps s n → (i : Id) (P : ℕ → Type 0) → IsLive s i → DependsOn s i P → DependsOn n i P
+over_later s n k i P l d a b same = eval-lasts s n k.was k.now k.extends i l a ∙ d a b same ∙ sym (eval-lasts s n k.was k.now k.extends i l b)
+
+-- an operation on functions with the terminals 0 and 1
+pub can_combine : (s : Diagrams) (op : Op) → ((x y : ℕ) → x < 2 → y < 2 → CanApply op x y) → (f g : Id) → IsTruth s f → IsTruth s g → CanCombine s op f g
+can_combine s op can f g a b x = can (eval s f x) (eval s g x) (a.truth x) (b.truth x)
+
+-- a pair of numbers below 2 fits two values a place
+pub pair_fits : (x y : ℕ) → x < 2 → y < 2 → CanApply (Pair 2) x y
+pair_fits x y h k = (k, omega arith)
+
+-- the number 2 * a + b
+pub number_small : (s n : Diagrams) (a b i : Id) → IsTruth s a → IsTruth s b → Means n i (combined_value s (Pair 2) a b) → (x : Assignment) → eval n i x < 4
+number_small s n a b i p q m x = let h = p.truth x in let k = q.truth x in rw (m.value x) (omega arith)
+
+-- it depends on what its digits depend on
+pub number_over : (s n : Diagrams) (a b i : Id) (P : ℕ → Type 0) → DependsOn s a P → DependsOn s b P → Means n i (combined_value s (Pair 2) a b) → DependsOn n i P
+number_over s n a b i P p q m x y same = m.value x ∙ (rw (p x y same, q x y same) refl) ∙ sym (m.value y)
+
+-- two cells
+pub two_truths : (s : Diagrams) (f g : Id) → IsTruth s f → IsTruth s g → AllTruths s (f ∷ g ∷ [])
+two_truths s f g a b zero h = a
+two_truths s f g a b (suc zero) h = b
+two_truths s f g a b (suc (suc k)) h = absurd (omega arith)
+
+-- a variable of an obligation
+pub obligation_over : (s : Diagrams) (f : Id) → s.props ≡ 2 → DependsOn s f (λ v. v ≡ 3) → IsOverObligations s 2 f
+obligation_over s f e d = over_weaker s f (λ v. v ≡ 3) (IsObligation s.props 2) (λ v h. (omega arith, omega arith)) d

@@ -1,0 +1,13 @@
+//! Tests of diagrams, automata, least automata, words that tell locations apart, and monitors.
+#![tactic(auto)]
+
+#[cfg(test)]
+mod automata_tests;
+#[cfg(test)]
+mod diagrams_tests;
+#[cfg(test)]
+mod distinguish_tests;
+#[cfg(test)]
+mod minimise_tests;
+#[cfg(test)]
+mod monitor_tests;
