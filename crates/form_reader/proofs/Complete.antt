@@ -60,6 +60,7 @@ run-Before p ws f [] = refl
 run-Before p ws f (token.Infix o ∷ ts) = refl
 run-Before p ws f (_ ∷ ts) = refl
 
+-- so may a modality with its path
 pub run-Behind : (m : Modality) (p : Program) (ws : List Item) (f : Formula) (ts : List Token) → run (After (Behind m p ∷ ws) f) ts ≡ run (After ws (behind m p f)) ts
 run-Behind m p ws f [] = refl
 run-Behind m p ws f (token.Infix o ∷ ts) = refl
@@ -71,6 +72,7 @@ run-Between o ws f g [] h = refl
 run-Between o ws f g (token.Infix q ∷ ts) h = rw (lt-ltb (level q) (level o) h)
 run-Between o ws f g (_ ∷ ts) h = refl
 
+-- and one between paths, where no operator of its level or above follows, nor a star, nor `?`
 pub run-PathBetween : (o : PathInfix) (ws : List Item) (p q : Program) (ts : List Token) → PathFollows (path_level o) ts → run (Based (PathBetween o p ∷ ws) q) ts ≡ run (Based ws (path_joined o p q)) ts
 run-PathBetween o ws p q [] h = refl
 run-PathBetween o ws p q (token.PathInfix r ∷ ts) h = rw (lt-ltb (path_level r) (path_level o) h)
@@ -84,6 +86,7 @@ run-Starred ws p [] h = refl
 run-Starred ws p (token.Star ∷ ts) h = absurd (omega arith)
 run-Starred ws p (_ ∷ ts) h = refl
 
+-- a propositional formula is a step where what may follow a path follows, so no `?`
 pub run-GuardRead : (ws : List Item) (f : Formula) (n : ℕ) (ts : List Token) → is_propositional f ≡ true → PathFollows n ts → run (GuardRead ws f) ts ≡ run (Based ws (formula.Step f)) ts
 run-GuardRead ws f n [] e h = refl
 run-GuardRead ws f n (token.Question ∷ ts) e h = absurd h
@@ -96,26 +99,31 @@ extended-Fits o (Behind m p ∷ ws) f e = let b : level o < unary = level-below 
 extended-Fits o (Between q g ∷ ws) f e = rw (le-ltb (level o) (level q) e)
 extended-Fits o _ f e = refl
 
+-- the same of an operator between paths
 pub path_extended-PathFits : (o : PathInfix) (ws : List Item) (p : Program) → PathFits (path_level o) ws → path_extended o ws p ≡ PathBetween o p ∷ ws
 path_extended-PathFits o (PathBetween q r ∷ ws) p e = rw (le-ltb (path_level o) (path_level q) e)
 path_extended-PathFits o _ p e = refl
 
+-- what may follow a formula may follow one of the next level
 pub Follows-suc : (n : ℕ) (ts : List Token) → Follows n ts → Follows (suc n) ts
 Follows-suc n (token.Infix q ∷ ts) h = omega arith
 Follows-suc n _ h = tt
 
+-- the same of a path
 pub PathFollows-suc : (n : ℕ) (ts : List Token) → PathFollows n ts → PathFollows (suc n) ts
 PathFollows-suc n (token.PathInfix q ∷ ts) h = omega arith
 PathFollows-suc n (token.Star ∷ ts) h = omega arith
 PathFollows-suc n (token.Question ∷ ts) h = h
 PathFollows-suc n _ h = tt
 
+-- where a formula fits, one of the next level fits
 pub Fits-suc : (n : ℕ) (ws : List Item) → Fits n ws → Fits (suc n) ws
 Fits-suc n (Before p ∷ ws) e = omega arith
 Fits-suc n (Behind m p ∷ ws) e = omega arith
 Fits-suc n (Between q g ∷ ws) e = omega arith
 Fits-suc n _ e = tt
 
+-- the same of a path
 pub PathFits-suc : (n : ℕ) (ws : List Item) → PathFits n ws → PathFits (suc n) ws
 PathFits-suc n (PathBetween q g ∷ ws) e = omega arith
 PathFits-suc n _ e = tt
@@ -126,6 +134,7 @@ run-CloseModality modalities.BoxAll ws p ts = refl
 
 -- the machine reads a formula or a path of the grammar and goes on after it
 mutual
+  -- a formula of the grammar is read
   pub run-Reads : {n : ℕ} {ts rest : List Token} {f : Formula} (ws : List Item) → Reads n ts f rest → Follows n rest → Fits n ws → run (Due ws) ts ≡ run (After ws f) rest
   run-Reads ws (leaf l) h e = refl
   run-Reads ws (prefix_of p {ts} {rest} {f} r) h e = run-Reads (Before p ∷ ws) r h (omega arith) ∙ run-Before p ws f rest
@@ -139,6 +148,7 @@ mutual
       ∙ run-Reads (Between o f ∷ ws) s h (omega arith)
       ∙ run-Between o ws f g rest h
 
+  -- so is a path
   pub run-Leads : {n : ℕ} {ts rest : List Token} {p : Program} (ws : List Item) → Leads n ts p rest → PathFollows n rest → PathFits n ws → run (PathDue ws) ts ≡ run (Based ws p) rest
   run-Leads ws (step_of {ts} {rest} {f} k e) h d = run-ReadsGuard ws k ∙ run-GuardRead ws f base rest (is_propositional-true f e) h
   run-Leads ws (test_of k) h d = run-ReadsGuard ws k
@@ -151,6 +161,7 @@ mutual
       ∙ run-Leads (PathBetween o p ∷ ws) s h (omega arith)
       ∙ run-PathBetween o ws p q rest h
 
+  -- and what a step or a test holds
   pub run-ReadsGuard : {ts rest : List Token} {f : Formula} (ws : List Item) → ReadsGuard ts f rest → run (PathDue ws) ts ≡ run (GuardRead ws f) rest
   run-ReadsGuard ws (bare l) = refl
   run-ReadsGuard ws (braces r) = run-Reads (Brace ∷ ws) r tt tt

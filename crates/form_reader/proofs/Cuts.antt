@@ -25,6 +25,7 @@ IsKnown ns (Sign t) = Unit {0}
 IsKnown ns (Word w) = is_listed ns w ≡ true
 IsKnown ns Bad = ⊥
 
+-- all lexemes are known
 abbrev pub AreKnown : List (List ℕ) → List (ℕ × Lexeme) → Type 0
 AreKnown ns [] = Unit {0}
 AreKnown ns (l ∷ ls) = IsKnown ns l.1 × AreKnown ns ls
@@ -47,9 +48,11 @@ Gives-lexeme {d} {ns} {rest} {ts} text x t n cut known is g = record {
   tokens = λ at. ap (tokens ns) (cut at) ∙ tokens-known ns at x (pieces d zero false (at + n) rest) known ∙ rw (is, g.tokens (at + n)) refl;
 }
 
+-- an equal text is cut into the same tokens
 pub Gives-same : {d : Dialect} {ns : List (List ℕ)} {text other : List ℕ} {ts : List Token} → other ≡ text → Gives d ns text ts → Gives d ns other ts
 Gives-same {d} {ns} {text} {other} {ts} e g = subst (λ bs. Gives d ns bs ts) (sym e) g
 
+-- the empty text has no tokens
 pub Gives-nothing : (d : Dialect) (ns : List (List ℕ)) → Gives d ns [] []
 Gives-nothing d ns = record { known = λ at. tt; tokens = λ at. refl }
 

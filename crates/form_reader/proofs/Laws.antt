@@ -13,6 +13,7 @@ use Rattle.form_reader.proofs.Sound.{IsText-run}
 use Rattle.form_reader.proofs.Shapes.{Shaped, step-Shaped}
 use Rattle.form_reader.proofs.Scans.{length-kinds, scan_of, step-scan, step-admits, finish-may_end}
 
+-- what holds of the item of an option, if there is one, holds of the item that is there
 pub IfSome-at : {A : Type 0} (P : A → Type 0) (o : Option A) (x : A) → o ≡ Some x → IfSome o P → P x
 IfSome-at P o x e h = let Q : Option _ → Type 0 = λ v. IfSome v P in subst Q e h
 
@@ -43,6 +44,7 @@ run_within-run s (t ∷ ts) h = go (step s t) (step-waits s t h) (step-scan s t 
     go None w e k h = none (is_shallow (scan_of s) (t ∷ ts))
     go (Some next) w e k h = rw w (choose next (nat_le (length (waits_after (scan_of s) t)) most_waiting) (is_shallow (after (scan_of s) t) ts) (run next ts) (h next k ∙ ap (λ g. cond (is_shallow g ts) (run next ts) None) e))
 
+-- what is read within the limit is the formula of the tokens, and at none do too many items wait
 pub found : (ts : List Token) (f : Formula) → run_within (Due []) ts ≡ Some f → IsReadAs ts f
 found ts f e = go (is_shallow start ts) refl (sym (run_within-run (Due []) ts tt) ∙ e)
   where
@@ -50,6 +52,7 @@ found ts f e = go (is_shallow start ts) refl (sym (run_within-run (Due []) ts tt
     go true d h = (IfSome-at (λ w. IsText ts w) (run (Due []) ts) f h (IsText-run ts), d)
     go false d h = cc
 
+-- such a formula is read within the limit
 pub only : (ts : List Token) (f : Formula) → IsReadAs ts f → run_within (Due []) ts ≡ Some f
 only ts f h = run_within-run (Due []) ts tt ∙ (let d = h.1 in rw d (run-IsText ts f h.0))
 

@@ -52,6 +52,7 @@ path_joined-IsProper p path_binary.Seq q r h k = (h, k)
 
 -- a formula of names with numbers below c is proper for c
 mutual
+  -- a formula that is read is proper for the number
   pub Reads-IsProper : (c : ℕ) {n : ℕ} {ts rest : List Token} {f : Formula} → Reads n ts f rest → AreNamesBelow c ts → IsProper c f × AreNamesBelow c rest
   Reads-IsProper c (leaf l) h = (leaf-IsProper c l h.0, h.1)
   Reads-IsProper c (prefix_of o {ts} {rest} {f} r) h = let k = Reads-IsProper c r h.1 in (prefixed-IsProper c o f k.0, k.1)
@@ -62,6 +63,7 @@ mutual
   Reads-IsProper c (infix_of o {ts} {us} {rest} {f} {g} r s) h =
       let j = Reads-IsProper c r h in let k = Reads-IsProper c s j.1.1 in (joined-IsProper c o f g j.0 k.0, k.1)
 
+  -- a path that is read is
   pub Leads-IsProper : (c : ℕ) {n : ℕ} {ts rest : List Token} {p : Program} → Leads n ts p rest → AreNamesBelow c ts → IsProperProgram c p × AreNamesBelow c rest
   Leads-IsProper c (step_of l e) h = let k = ReadsGuard-IsProper c l h in ((e, k.0), k.1)
   Leads-IsProper c (test_of l) h = let k = ReadsGuard-IsProper c l h in (k.0, k.1.1)
@@ -71,6 +73,7 @@ mutual
   Leads-IsProper c (path_infix_of o {ts} {us} {rest} {p} {q} l m) h =
       let j = Leads-IsProper c l h in let k = Leads-IsProper c m j.1.1 in (path_joined-IsProper c o p q j.0 k.0, k.1)
 
+  -- what a step or a test holds is
   pub ReadsGuard-IsProper : (c : ℕ) {ts rest : List Token} {f : Formula} → ReadsGuard ts f rest → AreNamesBelow c ts → IsProper c f × AreNamesBelow c rest
   ReadsGuard-IsProper c (bare l) h = (leaf-IsProper c l h.0, h.1)
   ReadsGuard-IsProper c (braces r) h = let k = Reads-IsProper c r h.1 in (k.0, k.1.1)
@@ -101,6 +104,7 @@ path_joined-nodes path_binary.Seq q r = refl
 
 -- each token makes at most eight nodes
 mutual
+  -- a formula has eight nodes a token, or fewer
   pub Reads-nodes : {n : ℕ} {ts rest : List Token} {f : Formula} → Reads n ts f rest → nodes f + 8 * length rest ≤ 8 * length ts
   Reads-nodes (leaf l) = let b = leaf-nodes l in omega arith
   Reads-nodes (prefix_of o {ts} {rest} {f} r) = let b = Reads-nodes r in let e = prefixed-nodes o f in omega arith
@@ -109,6 +113,7 @@ mutual
   Reads-nodes (alone n r) = Reads-nodes r
   Reads-nodes (infix_of o {ts} {us} {rest} {f} {g} r s) = let a = Reads-nodes r in let b = Reads-nodes s in let e = joined-nodes o f g in omega arith
 
+  -- a path has eight nodes a token, or fewer
   pub Leads-nodes : {n : ℕ} {ts rest : List Token} {p : Program} → Leads n ts p rest → program_nodes p + 8 * length rest ≤ 8 * length ts
   Leads-nodes (step_of l e) = let b = ReadsGuard-nodes l in omega arith
   Leads-nodes (test_of l) = let b = ReadsGuard-nodes l in omega arith

@@ -27,6 +27,7 @@ IsFrom-less : (n m : ℕ) (ls : List (ℕ × Lexeme)) → n ≤ m → IsFrom m l
 IsFrom-less n m [] h r = tt
 IsFrom-less n m (l ∷ ls) h r = (omega (arith, r.0), r.1)
 
+-- the places of the lexemes of a text rise, from that of its first byte on
 pub pieces-IsFrom : (d : Dialect) (skip : ℕ) (w : Bool) (at : ℕ) (bs : List ℕ) → IsFrom at (pieces d skip w at bs)
 pieces-IsFrom d skip w at [] = tt
 pieces-IsFrom d (suc skip) w at (b ∷ bs) = IsFrom-less at (suc at) _ (omega arith) (pieces-IsFrom d skip w (suc at) bs)
@@ -74,12 +75,14 @@ names_after-step zero ns (x ∷ ls) rest l e = let d : x ≡ l = cc in rw d
 names_after-step (suc n) ns [] rest l e = cc
 names_after-step (suc n) ns (x ∷ ls) rest l e = rw add-one (rw add-one at (names_after-step n (names_with ns x.1) ls rest l e))
 
+-- behind one item more the rest is left
 pub drop-step : {A : Type 0} (n : ℕ) (ls rest : List A) (l : A) → drop n ls ≡ l ∷ rest → drop (n + 1) ls ≡ rest
 drop-step zero [] rest l e = cc
 drop-step zero (x ∷ ls) rest l e = cc
 drop-step (suc n) [] rest l e = cc
 drop-step (suc n) (x ∷ ls) rest l e = rw add-one (rw add-one at (drop-step n ls rest l e))
 
+-- where no item is left, all are taken
 pub take-end : {A : Type 0} (n : ℕ) (ls : List A) → drop n ls ≡ [] → take n ls ≡ ls
 take-end zero [] e = refl
 take-end zero (x ∷ ls) e = cc
@@ -263,10 +266,12 @@ KeepsNames-ended o d names text n after e end is same h = go e o h
     go e None h = cc
     go e (Some f) h = cc
 
+-- at the end of the lexemes, the names are those after the whole text
 pub names_after-end : (d : Dialect) (ns : List (List ℕ)) (text : List ℕ) (n : ℕ) (after : List (List ℕ)) →
     drop n (lexemes d text) ≡ [] → names_after ns (take n (lexemes d text)) ≡ after → after ≡ names_after ns (lexemes d text)
 names_after-end d ns text n after end is = sym is ∙ ap (λ ks. names_after ns ks) (take-end n (lexemes d text) end)
 
+-- what holds anyway holds of an `Ok`
 pub OnOk-always : {A E P : Type 0} (r : Result A E) → P → OnOk r P
 OnOk-always (Ok x) h = h
 OnOk-always (Err e) h = tt

@@ -13,6 +13,7 @@ use Rattle.form_reader.specs.Words.{is_name}
 use Rattle.std.specs.List.{position_or_len, list_any}
 use Rattle.std.specs.Option.{is_some}
 
+-- `position_or_len` of a mapped list is that of the list, by the test after the map
 pub position_or_len-map : {A B : Type 0} (p : B → Bool) (f : A → B) (xs : List A) → position_or_len p (map f xs) ≡ position_or_len (λ x. p (f x)) xs
 position_or_len-map p f [] = refl
 position_or_len-map p f (x ∷ xs) = ap (λ n. cond (not (p (f x))) (1 + n) 0) (position_or_len-map p f xs)
@@ -30,6 +31,7 @@ or-right : (a b : Bool) → (a || b) ≡ false → b ≡ false
 or-right true b e = cc
 or-right false b e = e
 
+-- an item of a mapped list passes a test exactly where one of the list passes it after the map
 pub list_any-map : {A B : Type 0} (p : B → Bool) (f : A → B) (xs : List A) → list_any p (map f xs) ≡ list_any (λ x. p (f x)) xs
 list_any-map p f [] = refl
 list_any-map p f (x ∷ xs) = ap (λ b. p (f x) || b) (list_any-map p f xs)
@@ -91,6 +93,7 @@ AreNames-push ns ms w h room new valid e = rw e (record {
   different = AreDifferent-push ns w h.different new;
 })
 
+-- a position that is found is the one that `position_or_len` gives
 pub position-Some_is : {A : Type 0} (p : A → Bool) (xs : List A) (i : ℕ) → Some i ≡ position p xs → i ≡ position_or_len p xs
 position-Some_is p xs i e = go (nat_lt (position_or_len p xs) (length xs)) e
   where
@@ -98,6 +101,7 @@ position-Some_is p xs i e = go (nat_lt (position_or_len p xs) (length xs)) e
     go true h = cc
     go false h = cc
 
+-- `position_or_len` is at most the length
 pub position_or_len-le : {A : Type 0} (p : A → Bool) (xs : List A) → position_or_len p xs ≤ length xs
 position_or_len-le p [] = omega arith
 position_or_len-le p (x ∷ xs) = go (p x) (position_or_len-le p xs)
@@ -106,6 +110,7 @@ position_or_len-le p (x ∷ xs) = go (p x) (position_or_len-le p xs)
     go true h = omega arith
     go false h = omega arith
 
+-- where none is found, `position_or_len` gives the length
 pub position-None_is : {A : Type 0} (p : A → Bool) (xs : List A) → None ≡ position p xs → length xs ≡ position_or_len p xs
 position-None_is p xs e = go (leb_tells (suc (position_or_len p xs)) (length xs))
   where
@@ -113,4 +118,5 @@ position-None_is p xs e = go (leb_tells (suc (position_or_len p xs)) (length xs)
     go (inl h) = let d : None ≡ Some (position_or_len p xs) = e ∙ rw h.0 in cc
     go (inr h) = omega (arith, h.1, position_or_len-le p xs)
 
+-- `position_or_len` by what the search for a position found
 pub ruleset positions = (position-Some_is, position-None_is)

@@ -119,12 +119,15 @@ result_ok-Ok : {A : Type 0} (r : Result A FormFault) (x : A) → result_ok r ≡
 result_ok-Ok (Ok y) x e = cc
 result_ok-Ok (Err y) x e = cc
 
+-- lexemes that are the text of a formula, within the limits, have that formula as their outcome
 pub outcome-only : (closed : Bool) (ns : List (List ℕ)) (ls : List (ℕ × Lexeme)) (f : Formula) → IsRead closed ns ls f → outcome closed (stage_of ns 0 (Due [])) ls ≡ Ok f
 outcome-only closed ns ls f h = result_ok-Ok _ f (outcome-run_within closed (stage_of ns 0 (Due [])) ls ∙ (let d = h.0 in rw d (only (tokens ns ls) f h.1)))
 
+-- an answer that gives the outcome of such lexemes gives their formula
 pub Answers-only : (r : Result Form FormFault) (closed : Bool) (ns : List (List ℕ)) (ls : List (ℕ × Lexeme)) (f : Formula) → Answers r (outcome closed (stage_of ns 0 (Due [])) ls) → IsRead closed ns ls f → Answers r (Ok f)
 Answers-only r closed ns ls f h d = rw (outcome-only closed ns ls f d) at h
 
+-- the fault of the outcome is the first fault of the text, unless memory ran out
 pub Blames-first_fault : (closed : Bool) (ns : List (List ℕ)) (ls : List (ℕ × Lexeme)) (e : FormFault) → Blames e (outcome closed (stage_of ns 0 (Due [])) ls ≡ Err e) → Blames e (first_fault closed ns 0 start ls ≡ Some e)
 Blames-first_fault closed ns ls e h = Blames-map e _ _ (λ d. sym (outcome-first_fault closed (stage_of ns 0 (Due [])) ls tt) ∙ ap fault_of d) h
 

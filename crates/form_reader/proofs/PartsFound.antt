@@ -117,6 +117,8 @@ pub IsItem-printed : {E : Type 0} (ns : List (List ℕ)) (f : Formula) (k : ℕ)
 IsItem-printed ns f k g (Ok text) h i e = ap (option_map (printed ns)) (IsItem-part f k g h i) ∙ ap Some (sym e)
 IsItem-printed ns f k g (Err e) h i d = tt
 
+-- what a search through one list after another goes by
 pub ruleset found = (IsItem-left, IsItem-right, IsPast-both, IsPast-none)
 
+-- what a search among all the parts goes by, the formula itself the last
 pub ruleset itself = (IsItem-operand, IsItem-itself, IsPast-itself)

@@ -12,12 +12,15 @@ use Rattle.form_reader.specs.Spelling.{piece_at, pieces}
 use Rattle.form_reader.specs.Found.{lexeme_at, IsPieceAt, IsNamed, lexeme_of}
 use Rattle.form_reader.specs.declared.spelling.Lexeme.{Lexeme}
 
+-- the length of a word by its first byte: one more than the rest where that byte goes on a word, else 0
 pub word_length-here : (text : List ℕ) (n : ℕ) → n < length text → word_length (drop n text) ≡ cond (goes_on (get_or text n 0)) (suc (word_length (drop (n + 1) text))) 0
 word_length-here text n h = rw (add-one, drop-cons text n 0)
 
+-- where the byte goes on a word, the length is one more than that from the next byte on
 pub word_length-goes_on : (text : List ℕ) (n : ℕ) → n < length text → goes_on (get_or text n 0) ≡ true → word_length (drop n text) ≡ suc (word_length (drop (n + 1) text))
 word_length-goes_on text n h e = rw (word_length-here text n h, e)
 
+-- where the byte does not go on a word, the length is 0
 pub word_length-stops : (text : List ℕ) (n : ℕ) → n < length text → goes_on (get_or text n 0) ≡ false → word_length (drop n text) ≡ 0
 word_length-stops text n h e = rw (word_length-here text n h, e)
 
@@ -27,6 +30,7 @@ pieces-skip d w zero at bs h = rw add-zero
 pieces-skip d w (suc n) at [] h = absurd (omega arith)
 pieces-skip d w (suc n) at (b ∷ bs) h = pieces-skip d w n (suc at) bs (omega arith) ∙ (let e : suc at + n ≡ at + suc n = omega arith in ap (λ k. pieces d zero w k (drop n bs)) e)
 
+-- a blank is passed over
 pub pieces-blank : (d : Dialect) (text : List ℕ) (at : ℕ) → at < length text → is_blank (get_or text at 0) ≡ true → pieces d zero false (at + 1) (drop at text) ≡ pieces d zero false (at + 1 + 1) (drop (at + 1) text)
 pieces-blank d text at h e = rw (drop-cons text at 0, e, add-one, add-one)
 
@@ -44,6 +48,7 @@ same_front a b x y r s e d h = rw (e, d, h)
 front : (d : Dialect) (xs : List ℕ) (b : ℕ) (bs : List ℕ) (at : ℕ) → xs ≡ b ∷ bs → is_blank b ≡ false → pieces d zero false at xs ≡ (at, (piece_at d xs).lexeme) ∷ pieces d ((piece_at d xs).size - 1) (begins_word (slice_index xs 0)) (suc at) bs
 front d xs b bs at c e = rw (c, e)
 
+-- where no blank stands, the first lexeme is that of the piece there, and the cut goes on after it
 pub pieces-piece : (d : Dialect) (text : List ℕ) (at : ℕ) (f : Found) → at < length text → is_blank (get_or text at 0) ≡ false → IsPieceAt d f text at → f.to ≤ length text → at < f.to → pieces d zero false (at + 1) (drop at text) ≡ lexeme_at f text ∷ pieces d zero f.is_word (f.to + 1) (drop f.to text)
 pieces-piece d text at f h e s within later =
     let size = (piece_at d (drop at text)).size in
@@ -98,10 +103,14 @@ IsNamed-at text at n l h =
     let rest : take (length text - at) (drop at text) ≡ drop at text = take_all (length text - at) (drop at text) (omega (arith, length-drop at text)) in
     rw size (rw rest at h)
 
+-- the bytes of a run that begins a word, up to the longest word, are a word
 pub ruleset fronts = (is_word-front)
 
+-- the length of a word, byte by byte
 pub ruleset words = (word_length-goes_on, word_length-stops)
 
+-- the cut of a text where no word stands right before: at a blank and at a piece
 pub ruleset steps = (pieces-blank, pieces-piece)
 
+-- the cut of a text right behind a word
 pub ruleset word_ends = (pieces-in_word, pieces-apart)

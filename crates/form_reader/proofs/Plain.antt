@@ -29,14 +29,17 @@ plain_of (Due ws) = plain ws
 plain_of (After ws f) = is_propositional f && plain ws
 plain_of _ = false
 
+-- a conjunction with false is false
 pub and-false : (b : Bool) → (b && false) ≡ false
 and-false true = refl
 and-false false = refl
 
+-- with a prefix operator before it, a formula is propositional where it was and the operator is `!`
 pub plain-prefixed : (p : Prefix) (f : Formula) (b : Bool) → (is_propositional (prefixed p f) && b) ≡ (is_propositional f && (is_plain_prefix p && b))
 plain-prefixed before.Not f b = refl
 plain-prefixed _ f b = sym (and-false (is_propositional f))
 
+-- with a modality before it, no formula is propositional
 pub plain-behind : (m : Modality) (p : Program) (f : Formula) (b : Bool) → (is_propositional (behind m p f) && b) ≡ (is_propositional f && false)
 plain-behind modalities.Diamond p f b = sym (and-false (is_propositional f))
 plain-behind modalities.BoxAll p f b = sym (and-false (is_propositional f))
@@ -47,11 +50,13 @@ rearranged true false b = refl
 rearranged false true b = refl
 rearranged false false b = refl
 
+-- two joined formulas are propositional where both are and the operator is neither `U` nor `R`
 pub plain-joined : (o : Infix) (g f : Formula) (b : Bool) → (is_propositional (joined o g f) && b) ≡ (is_propositional f && (is_plain_infix o && (is_propositional g && b)))
 plain-joined binary.Until g f b = sym (and-false (is_propositional f))
 plain-joined binary.Release g f b = sym (and-false (is_propositional f))
 plain-joined _ g f b = rearranged (is_propositional g) (is_propositional f) b
 
+-- the items after a binary operator, as the operator, its left formula and the items before tell
 pub plain-extended : (o : Infix) (ws : List Item) (f : Formula) → plain (extended o ws f) ≡ (is_plain_infix o && (is_propositional f && plain ws))
 plain-extended o (Before p ∷ ws) f = plain-extended o ws (prefixed p f) ∙ ap (λ b. is_plain_infix o && b) (plain-prefixed p f (plain ws))
 plain-extended o (Behind m p ∷ ws) f = plain-extended o ws (behind m p f) ∙ ap (λ b. is_plain_infix o && b) (plain-behind m p f (plain ws))
@@ -67,6 +72,7 @@ pub leaf-plain : (l : Leaf) → is_propositional (leaf_of l) ≡ is_plain_leaf l
 leaf-plain leaf_tokens.True = refl
 leaf-plain _ = refl
 
+-- a conjunction with true is its left side
 pub and-true : (b : Bool) → b ≡ (b && true)
 and-true true = refl
 and-true false = refl

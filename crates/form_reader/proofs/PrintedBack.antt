@@ -27,6 +27,7 @@ is_within-known closed ns count ((at, Word w) ∷ ls) known few =
     rw (listed, room) (is_within-known closed ns (count + 1) ls known.1 (omega arith))
 is_within-known closed ns count ((at, Bad) ∷ ls) known few = absurd known.0
 
+-- a printed formula is read back as itself, in each dialect that has its operators, within the limits
 pub printed-reads_back : PrintedReadsBack
 printed-reads_back ns names f valid numbered proper d operators within =
     let p = Prints-printed d ns names.names f valid numbered proper operators in

@@ -5,14 +5,17 @@ use Rattle.forms.specs.Tree as formula
 use Rattle.forms.specs.Proper.{IsPropositional}
 use Rattle.form_reader.specs.Machine.{is_propositional}
 
+-- a conjunction that is true has a true left side
 pub and-left : (a b : Bool) → (a && b) ≡ true → a ≡ true
 and-left true b e = refl
 and-left false b e = cc
 
+-- and a true right side
 pub and-right : (a b : Bool) → (a && b) ≡ true → b ≡ true
 and-right true b e = e
 and-right false b e = cc
 
+-- of two true sides the conjunction is true
 pub and-both : (a b : Bool) → a ≡ true → b ≡ true → (a && b) ≡ true
 and-both a b e d = rw (e, d)
 

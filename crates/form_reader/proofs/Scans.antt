@@ -33,6 +33,7 @@ kinds (Behind m p ∷ ws) = kind.Unary ∷ kinds ws
 kinds (Between o f ∷ ws) = kind.Binary o ∷ kinds ws
 kinds (PathBetween o p ∷ ws) = kind.PathBinary o ∷ kinds ws
 
+-- as many kinds as items
 pub length-kinds : (ws : List Item) → length (kinds ws) ≡ length ws
 length-kinds [] = refl
 length-kinds (Bracket ∷ ws) = ap suc (length-kinds ws)

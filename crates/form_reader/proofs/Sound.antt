@@ -42,6 +42,7 @@ pub record PathOperand (input : List Token) (ws : List Item) (n : ℕ) (p : Prog
   pub leads : Leads n from p ts
   pub fits : PathFits n ws
 
+-- a formula of a level is one of each lower level
 pub Reads-looser : (n m : ℕ) {ts rest : List Token} {f : Formula} → n ≤ m → Reads m ts f rest → Reads n ts f rest
 Reads-looser n zero {ts} {rest} {f} h r = let e : zero ≡ n = omega arith in subst (λ k. Reads k ts f rest) e r
 Reads-looser n (suc m) {ts} {rest} {f} h r = go (λ e. Reads-looser n m e (alone m r)) (leb_tells n m)
@@ -50,6 +51,7 @@ Reads-looser n (suc m) {ts} {rest} {f} h r = go (λ e. Reads-looser n m e (alone
     go further (inl e) = further e.1
     go further (inr e) = let below : m < n = e.1 in let d : suc m ≡ n = omega arith in subst (λ k. Reads k ts f rest) d r
 
+-- the same of a path
 pub Leads-looser : (n m : ℕ) {ts rest : List Token} {p : Program} → n ≤ m → Leads m ts p rest → Leads n ts p rest
 Leads-looser n zero {ts} {rest} {p} h r = let e : zero ≡ n = omega arith in subst (λ k. Leads k ts p rest) e r
 Leads-looser n (suc m) {ts} {rest} {p} h r = go (λ e. Leads-looser n m e (path_alone m r)) (leb_tells n m)
@@ -58,6 +60,7 @@ Leads-looser n (suc m) {ts} {rest} {p} h r = go (λ e. Leads-looser n m e (path_
     go further (inl e) = further e.1
     go further (inr e) = let below : m < n = e.1 in let d : suc m ≡ n = omega arith in subst (λ k. Leads k ts p rest) d r
 
+-- a formula with no binary operator of its own may stand behind anything
 pub Fits-unary : (ws : List Item) → Fits unary ws
 Fits-unary (Before p ∷ ws) = omega arith
 Fits-unary (Behind m p ∷ ws) = omega arith
@@ -73,12 +76,15 @@ PathFits-star n _ h = tt
 pub apply-Before : {input : List Token} (p : Prefix) (ws : List Item) (n : ℕ) (f : Formula) (ts : List Token) → Operand input (Before p ∷ ws) n f ts → Operand input ws unary (prefixed p f) ts
 apply-Before p ws n f ts o = record { from = token.Prefix p ∷ o.from; spells = o.spells; reads = prefix_of p (Reads-looser unary n o.fits o.reads); fits = Fits-unary ws }
 
+-- the waiting modality with its path is applied
 pub apply-Behind : {input : List Token} (m : Modality) (p : Program) (ws : List Item) (n : ℕ) (f : Formula) (ts : List Token) → Operand input (Behind m p ∷ ws) n f ts → Operand input ws unary (behind m p f) ts
 apply-Behind m p ws n f ts o = record { from = token.OpenModality m ∷ o.spells.0; spells = o.spells.1; reads = modal_of m o.spells.2 (Reads-looser unary n o.fits o.reads); fits = Fits-unary ws }
 
+-- the waiting binary operator is applied to its two operands
 pub apply-Between : {input : List Token} (q : Infix) (g : Formula) (ws : List Item) (n : ℕ) (f : Formula) (ts : List Token) → Operand input (Between q g ∷ ws) n f ts → Operand input ws (level q) (joined q g f) ts
 apply-Between q g ws n f ts o = record { from = o.spells.0; spells = o.spells.1; reads = infix_of q o.spells.2 (Reads-looser (level q) n o.fits o.reads); fits = o.spells.3 }
 
+-- the waiting operator between paths is applied to its two paths
 pub apply-PathBetween : {input : List Token} (q : PathInfix) (r : Program) (ws : List Item) (n : ℕ) (p : Program) (ts : List Token) → PathOperand input (PathBetween q r ∷ ws) n p ts → PathOperand input ws (path_level q) (path_joined q r p) ts
 apply-PathBetween q r ws n p ts o = record { from = o.spells.0; spells = o.spells.1; leads = path_infix_of q o.spells.2 (Leads-looser (path_level q) n o.fits o.leads); fits = o.spells.3 }
 
@@ -91,6 +97,7 @@ Holds input (GuardRead ws f) ts = (us : List Token) × Spells input ws us × Rea
 Holds input (Based ws p) ts = PathOperand input ws base p ts
 Holds input (Starred ws p) ts = PathOperand input ws star p ts
 
+-- after a token that closes a formula, what was read is as the next state says
 pub closed-Holds : (input : List Token) (ws : List Item) (n : ℕ) (f : Formula) (t : Token) (ts : List Token) → Operand input ws n f (t ∷ ts) → IfSome (closed ws f t) (λ next. Holds input next ts)
 closed-Holds input (Before p ∷ ws) n f t ts o = closed-Holds input ws unary (prefixed p f) t ts (apply-Before p ws n f _ o)
 closed-Holds input (Behind m p ∷ ws) n f t ts o = closed-Holds input ws unary (behind m p f) t ts (apply-Behind m p ws n f _ o)
@@ -99,6 +106,7 @@ closed-Holds input (Bracket ∷ ws) n f token.Close ts o = record { from = token
 closed-Holds input (Brace ∷ ws) n f token.CloseBrace ts o = (token.OpenBrace ∷ o.from, o.spells, braces (Reads-looser 0 n (omega arith) o.reads))
 closed-Holds input _ n f t ts o = tt
 
+-- so it is after one that closes a path
 pub path_closed-Holds : (input : List Token) (ws : List Item) (n : ℕ) (p : Program) (t : Token) (ts : List Token) → PathOperand input ws n p (t ∷ ts) → IfSome (path_closed ws p t) (λ next. Holds input next ts)
 path_closed-Holds input (PathBetween q r ∷ ws) n p t ts o = path_closed-Holds input ws (path_level q) (path_joined q r p) t ts (apply-PathBetween q r ws n p _ o)
 path_closed-Holds input (PathBracket ∷ ws) n p token.Close ts o = record { from = token.Open ∷ o.from; spells = o.spells; leads = path_brackets (Leads-looser 0 n (omega arith) o.leads); fits = PathFits-star base ws (omega arith) }
@@ -106,6 +114,7 @@ path_closed-Holds input (Angle modalities.Diamond ∷ ws) n p (token.CloseModali
 path_closed-Holds input (Angle modalities.BoxAll ∷ ws) n p (token.CloseModality modalities.BoxAll) ts o = (o.from, o.spells, Leads-looser 0 n (omega arith) o.leads)
 path_closed-Holds input _ n p t ts o = tt
 
+-- at the end of the text, the finished formula is that of the text
 pub finished-Holds : (input : List Token) (ws : List Item) (n : ℕ) (f : Formula) → Operand input ws n f [] → IfSome (finished ws f) (λ w. IsText input w)
 finished-Holds input [] n f o = subst (λ ts. IsText ts f) (sym o.spells) (Reads-looser 0 n (omega arith) o.reads)
 finished-Holds input (Before p ∷ ws) n f o = finished-Holds input ws unary (prefixed p f) (apply-Before p ws n f _ o)
@@ -113,6 +122,7 @@ finished-Holds input (Behind m p ∷ ws) n f o = finished-Holds input ws unary (
 finished-Holds input (Between q g ∷ ws) n f o = finished-Holds input ws (level q) (joined q g f) (apply-Between q g ws n f _ o)
 finished-Holds input _ n f o = tt
 
+-- the items after a binary operator are those of the tokens before them
 pub extended-Holds : (input : List Token) (b : Infix) (ws : List Item) (n : ℕ) (f : Formula) (ts : List Token) → level b < n → Operand input ws n f (token.Infix b ∷ ts) → Spells input (extended b ws f) ts
 extended-Holds input b (Before p ∷ ws) n f ts h o = extended-Holds input b ws unary (prefixed p f) ts (level-below b) (apply-Before p ws n f _ o)
 extended-Holds input b (Behind m p ∷ ws) n f ts h o = extended-Holds input b ws unary (behind m p f) ts (level-below b) (apply-Behind m p ws n f _ o)
@@ -124,6 +134,7 @@ extended-Holds input b (Between q g ∷ ws) n f ts h o =
     go further (inr e) = rw e.0 (o.from, o.spells, Reads-looser (suc (level b)) n (omega arith) o.reads, omega (arith, e.1))
 extended-Holds input b _ n f ts h o = (o.from, o.spells, Reads-looser (suc (level b)) n (omega arith) o.reads, tt)
 
+-- so are the items after an operator between paths
 pub path_extended-Holds : (input : List Token) (b : PathInfix) (ws : List Item) (n : ℕ) (p : Program) (ts : List Token) → path_level b < n → PathOperand input ws n p (token.PathInfix b ∷ ts) → Spells input (path_extended b ws p) ts
 path_extended-Holds input b (PathBetween q r ∷ ws) n p ts h o =
     go (λ e. path_extended-Holds input b ws (path_level q) (path_joined q r p) ts e (apply-PathBetween q r ws n p _ o)) (leb_tells (suc (path_level b)) (path_level q))
@@ -152,6 +163,7 @@ step_guard-Holds input ws f t ts h = go (is_propositional f) refl
     go true e = step_based-Holds input ws (formula.Step f) t ts (record { from = h.0; spells = h.1; leads = step_of h.2 (IsPropositional-tested f e); fits = PathFits-star base ws (omega arith) })
     go false e = tt
 
+-- after each token, what was read is as the next state says
 pub step-Holds : (input : List Token) (s : State) (t : Token) (ts : List Token) → Holds input s (t ∷ ts) → IfSome (step s t) (λ next. Holds input next ts)
 step-Holds input (Due ws) token.Open ts h = h
 step-Holds input (Due ws) (token.Prefix p) ts h = h
@@ -172,6 +184,7 @@ and_then-IfSome : {A B : Type 0} (P : A → Type 0) (Q : B → Type 0) (f : A �
 and_then-IfSome P Q f None h k = tt
 and_then-IfSome P Q f (Some x) h k = k x h
 
+-- so what is read at the end is the formula of the text
 pub run-Holds : (input : List Token) (s : State) (ts : List Token) → Holds input s ts → IfSome (run s ts) (λ f. IsText input f)
 run-Holds input (After ws f) [] h = finished-Holds input ws unary f h
 run-Holds input _ [] h = tt

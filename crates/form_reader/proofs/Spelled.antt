@@ -200,6 +200,7 @@ Prints-starred {d} {ms} false e p = Prints-Marks (Prints-then p (path-sign d ms 
 
 -- the texts of formulas and paths give their tokens
 mutual
+  -- the text of a formula gives its tokens
   pub Prints-printed : (d : Dialect) (ns ms : List (List ℕ)) (f : Formula) → AreNames ns → AreNumberedIn ns ms → IsProper (length ns) f → IsOfDialect d f → Prints d ms (printed ns f) (written f)
   Prints-printed d ns ms True valid numbered h o = Prints-constant d ms (codes "true") (token.Leaf leaf_tokens.True) refl (true-lexeme d)
   Prints-printed d ns ms False valid numbered h o = Prints-constant d ms (codes "false") (token.Leaf leaf_tokens.False) refl (false-lexeme d)

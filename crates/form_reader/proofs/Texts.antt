@@ -42,6 +42,7 @@ abbrev pub IsPlainLexeme : Lexeme → Type 0
 IsPlainLexeme (Sign t) = IsNameless t
 IsPlainLexeme l = Unit {0}
 
+-- no lexeme that is no word gives a name
 abbrev pub ArePlainLexemes : List (ℕ × Lexeme) → Type 0
 ArePlainLexemes [] = Unit {0}
 ArePlainLexemes (l ∷ ls) = IsPlainLexeme l.1 × ArePlainLexemes ls
@@ -182,6 +183,7 @@ KeepsNames-keeps : (e : FormFault) (d : Dialect) (names : Table) (text : List �
 KeepsNames-keeps faults.Memory d names text after h = ap (λ ms. take (length names.names) ms) h.1 ∙ names_after-keeps names.names (take h.0 (accepted d names text))
 KeepsNames-keeps e d names text after h = ap (λ ms. take (length names.names) ms) h ∙ names_after-keeps names.names (before_fault e (lexemes d text))
 
+-- whatever the answer, the names before are the first of those after
 pub names-kept : (r : Result Form FormFault) (d : Dialect) (names : Table) (text : List ℕ) (after : List (List ℕ)) → OnOk r (after ≡ names_of d names text) → IfErr r (λ e. KeepsNames e d names text after) → take (length names.names) after ≡ names.names
 names-kept (Ok f) d names text after h k = ap (λ ms. take (length names.names) ms) h ∙ names_after-keeps names.names (lexemes d text)
 names-kept (Err e) d names text after h k = KeepsNames-keeps e d names text after k
@@ -246,10 +248,12 @@ pub Answers-place : (r : Result Form FormFault) (d : Dialect) (names : Table) (t
 Answers-place (Ok form) d names text h = tt
 Answers-place (Err e) d names text h = Blames-first_fault names.closed names.names (lexemes d text) e h
 
+-- what was read is proper for the names after it
 pub Answers-proper : (r : Result Form FormFault) (d : Dialect) (names : Table) (text : List ℕ) (after : List (List ℕ)) → IfOk r (λ form. IsFormulaOf d names text (tree form)) → OnOk r (after ≡ names_of d names text) → IfOk r (λ form. IsProper (length after) (tree form))
 Answers-proper (Ok form) d names text after h e = rw e (IsFormulaOf-IsProper d names text (tree form) h)
 Answers-proper (Err e) d names text after h k = tt
 
+-- what was read has fewer than 2^32 nodes
 pub Answers-small : (r : Result Form FormFault) (d : Dialect) (names : Table) (text : List ℕ) → IfOk r (λ form. IsFormulaOf d names text (tree form)) → IfOk r (λ form. nodes (tree form) < 2 ^ 32)
 Answers-small (Ok form) d names text h = IsFormulaOf-small d names text (tree form) h
 Answers-small (Err e) d names text h = tt
