@@ -1,9 +1,13 @@
 -- What waits in the program, as the items of the machine.
-use Rattle.std.specs.Prelude.{◌≡◌, List, Option, Some, None, Result, Ok, Err, map, reverse}
+use Rattle.std.specs.Prelude.{◌≡◌, List, ◌∷◌, Option, Some, None, Result, Ok, Err, map, reverse}
 use Rattle.forms.specs.declared.form.Form.{Form}
-use Rattle.forms.specs.Tree.{Formula, tree, program}
+use Rattle.forms.specs.declared.form.Path.{Path}
+use Rattle.forms.specs.Tree.{Formula, Program, tree, program}
 use Rattle.form_reader.specs.declared.step.StepFault.{StepFault}
 use Rattle.form_reader.specs.declared.step.StepFault.TheVariants as faults
+use Rattle.form_reader.specs.declared.token.Infix.{Infix}
+use Rattle.form_reader.specs.declared.token.PathInfix.{PathInfix}
+use Rattle.form_reader.specs.declared.token.Token.{Token}
 use Rattle.form_reader.specs.declared.item.Bracket.{Bracket}
 use Rattle.form_reader.specs.declared.item.Bracket.TheVariants as brackets
 use Rattle.form_reader.specs.declared.item.Operator.{Operator}
@@ -12,7 +16,7 @@ use Rattle.form_reader.specs.declared.item.Item.{Item}
 use Rattle.form_reader.specs.declared.item.Item.TheVariants as items
 use Rattle.form_reader.specs.declared.item.Latest.{Latest}
 use Rattle.form_reader.specs.declared.item.Latest.TheVariants as latests
-use Rattle.form_reader.specs.Grammar.{prefixed, behind, joined}
+use Rattle.form_reader.specs.Grammar.{prefixed, behind, joined, path_joined}
 use Rattle.form_reader.specs.Machine as machine
 
 -- an open bracket
@@ -66,3 +70,29 @@ Fails faults.Refused cause = cause
 abbrev pub Gives : Result Form StepFault → Option Formula → Type 0
 Gives (Ok f) found = found ≡ Some (tree f)
 Gives (Err e) found = Fails e (found ≡ None)
+
+-- the token takes what waited to this state, or it is refused where there is no such state, unless memory ran out
+abbrev pub Steps : Result Latest StepFault → List Item → Option machine.State → Type 0
+Steps (Ok next) waiting found = found ≡ Some (state_of waiting next)
+Steps (Err e) waiting found = Fails e (found ≡ None)
+
+-- the token closes the bracket behind the formula, or it is refused there, whatever waits before the bracket
+abbrev pub Closes : Result Latest StepFault → Bracket → Formula → Token → Type 0
+Closes (Ok next) b f token = (ws : List machine.Item) → machine.closed (bracket b ∷ ws) f token ≡ Some (state_at ws next)
+Closes (Err e) b f token = Fails e ((ws : List machine.Item) → machine.closed (bracket b ∷ ws) f token ≡ None)
+
+-- the answer is as the fact says, unless memory ran out
+abbrev pub UnlessMemory : {A : Type 0} → Result A StepFault → (A → Type 0) → Type 0
+UnlessMemory (Ok x) P = P x
+UnlessMemory (Err e) P = e ≡ faults.Memory
+
+-- the operator that is taken away is applied before the binary one comes to wait; where there is none, that one waits last
+abbrev pub Loosens : Infix → Option Operator → List machine.Item → List machine.Item → Type 0
+Loosens o None before after = (f : Formula) → machine.extended o before f ≡ machine.Between o f ∷ after
+Loosens o (Some tighter) before after = (f : Formula) → machine.extended o before f ≡ machine.extended o after (applied tighter f)
+
+-- the same of an operator between paths
+abbrev pub LoosensPath : PathInfix → Option (PathInfix × Path) → List machine.Item → List machine.Item → Type 0
+LoosensPath o None before after = (p : Program) → machine.path_extended o before p ≡ machine.PathBetween o p ∷ after
+LoosensPath o (Some tighter) before after =
+    (p : Program) → machine.path_extended o before p ≡ machine.path_extended o after (path_joined tighter.0 (program tighter.1) p)

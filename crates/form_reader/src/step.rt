@@ -1,8 +1,8 @@
-ghost use Rattle.std.specs.Prelude.{◌≡◌, ◌<◌, List, MatchResult, MatchOption, IfSome, Some, None, ◌∷◌, vec_len};
-ghost use Rattle.forms.specs.Tree.{Formula, Program, tree, program};
+ghost use Rattle.std.specs.Prelude.{◌≡◌, ◌<◌, IfSome, ◌∷◌, vec_len};
+ghost use Rattle.forms.specs.Tree.{tree, program};
 ghost use Rattle.form_reader.specs.Grammar as grammar;
 ghost use Rattle.form_reader.specs.Machine as machine;
-ghost use Rattle.form_reader.specs.Stack.{bracket, stack, state_at, state_of, applied, Fails, Gives};
+ghost use Rattle.form_reader.specs.Stack.{bracket, stack, state_of, Gives, Steps, Closes, UnlessMemory, Loosens, LoosensPath};
 
 use crate::building::{apply, joined_paths, leaf, star_path, step_path, test_path};
 use crate::item::{Bracket, Item, Latest, Operator};
@@ -68,7 +68,7 @@ fn close(
     operand: Operand,
     token: Token,
 ) -> Result<Latest, StepFault>
-    ensures { MatchResult result (λ next. machine.closed (stack waiting.old.items) (tree operand.form) token ≡ Some (state_of waiting.new.items next)) (λ e. Fails e (machine.closed (stack waiting.old.items) (tree operand.form) token ≡ None)) }
+    ensures { Steps result waiting.new.items (machine.closed (stack waiting.old.items) (tree operand.form) token) }
 {
     let mut made = operand;
     while let Some(item) = waiting.pop() {
@@ -83,7 +83,7 @@ fn close(
 
 /// What the token makes of an open bracket and the formula in it.
 fn closed(b: Bracket, operand: Operand, token: Token) -> Result<Latest, StepFault>
-    ensures { MatchResult result (λ next. (ws : List machine.Item) → machine.closed (bracket b ∷ ws) (tree operand.form) token ≡ Some (state_at ws next)) (λ e. Fails e ((ws : List machine.Item) → machine.closed (bracket b ∷ ws) (tree operand.form) token ≡ None)) }
+    ensures { Closes result b (tree operand.form) token }
 {
     match (b, token) {
         (Bracket::Formula, Token::Close) => Ok(Latest::Formula(operand)),
@@ -99,7 +99,7 @@ fn close_path(
     path: Path,
     token: Token,
 ) -> Result<Latest, StepFault>
-    ensures { MatchResult result (λ next. machine.path_closed (stack waiting.old.items) (program path) token ≡ Some (state_of waiting.new.items next)) (λ e. Fails e (machine.path_closed (stack waiting.old.items) (program path) token ≡ None)) }
+    ensures { Steps result waiting.new.items (machine.path_closed (stack waiting.old.items) (program path) token) }
 {
     let mut made = path;
     while let Some(item) = waiting.pop() {
@@ -119,7 +119,7 @@ fn closed_path(
     path: Path,
     token: Token,
 ) -> Result<Latest, StepFault>
-    ensures { MatchResult result (λ next. machine.path_closed (bracket b ∷ stack waiting.old.items) (program path) token ≡ Some (state_of waiting.new.items next)) (λ e. Fails e (machine.path_closed (bracket b ∷ stack waiting.old.items) (program path) token ≡ None)) }
+    ensures { Steps result waiting.new.items (machine.path_closed (bracket b ∷ stack waiting.old.items) (program path) token) }
 {
     match (b, token) {
         (Bracket::Path, Token::Close) => Ok(Latest::Path(path)),
@@ -135,7 +135,10 @@ fn closed_path(
 
 /// Makes a closed path wait, as one prefix operator.
 fn wait_behind(waiting: &mut Vec<Item>, modality: Modality, path: Path) -> Result<Latest, StepFault>
-    ensures { MatchResult result (λ next. state_of waiting.new.items next ≡ machine.Due (machine.Behind modality (program path) ∷ stack waiting.old.items)) (λ e. e ≡ StepFault.Memory) }
+    ensures {
+        UnlessMemory result (λ next. state_of waiting.new.items next
+            ≡ machine.Due (machine.Behind modality (program path) ∷ stack waiting.old.items))
+    }
 {
     waiting.push(Item::Operator(Operator::Behind(modality, path)))?;
     Ok(Latest::FormulaDue)
@@ -158,8 +161,8 @@ pub fn finish(alloc: Global, waiting: &mut Vec<Item>, operand: Operand) -> Resul
 
 /// Takes the latest item away if it is applied before a binary operator comes to wait.
 fn pop_tighter(waiting: &mut Vec<Item>, operator: Infix) -> Result<Option<Operator>, StepFault>
-    ensures found { MatchResult result (λ found. MatchOption found ((f : Formula) → machine.extended operator (stack waiting.old.items) f ≡ machine.Between operator f ∷ stack waiting.new.items) (λ tighter. (f : Formula) → machine.extended operator (stack waiting.old.items) f ≡ machine.extended operator (stack waiting.new.items) (applied tighter f))) (λ e. e ≡ StepFault.Memory) }
-    ensures shorter { MatchResult result (λ found. IfSome found (λ tighter. vec_len waiting.new < vec_len waiting.old)) (λ e. e ≡ StepFault.Memory) }
+    ensures found { UnlessMemory result (λ found. Loosens operator found (stack waiting.old.items) (stack waiting.new.items)) }
+    ensures shorter { UnlessMemory result (λ found. IfSome found (λ tighter. vec_len waiting.new < vec_len waiting.old)) }
 {
     match waiting.pop() {
         None => Ok(None),
@@ -191,7 +194,10 @@ fn extend(
     operator: Infix,
     operand: Operand,
 ) -> Result<(), StepFault>
-    ensures { MatchResult result (λ _. stack waiting.new.items ≡ machine.extended operator (stack waiting.old.items) (tree operand.form)) (λ e. e ≡ StepFault.Memory) }
+    ensures {
+        UnlessMemory result (λ _. stack waiting.new.items
+            ≡ machine.extended operator (stack waiting.old.items) (tree operand.form))
+    }
 {
     let mut made = operand;
     while let Some(tighter) = pop_tighter(waiting, operator)? {
@@ -206,8 +212,8 @@ fn pop_tighter_path(
     waiting: &mut Vec<Item>,
     operator: PathInfix,
 ) -> Result<Option<(PathInfix, Path)>, StepFault>
-    ensures found { MatchResult result (λ found. MatchOption found ((p : Program) → machine.path_extended operator (stack waiting.old.items) p ≡ machine.PathBetween operator p ∷ stack waiting.new.items) (λ tighter. (p : Program) → machine.path_extended operator (stack waiting.old.items) p ≡ machine.path_extended operator (stack waiting.new.items) (grammar.path_joined tighter.0 (program tighter.1) p))) (λ e. e ≡ StepFault.Memory) }
-    ensures shorter { MatchResult result (λ found. IfSome found (λ tighter. vec_len waiting.new < vec_len waiting.old)) (λ e. e ≡ StepFault.Memory) }
+    ensures found { UnlessMemory result (λ found. LoosensPath operator found (stack waiting.old.items) (stack waiting.new.items)) }
+    ensures shorter { UnlessMemory result (λ found. IfSome found (λ tighter. vec_len waiting.new < vec_len waiting.old)) }
 {
     match waiting.pop() {
         None => Ok(None),
@@ -237,7 +243,10 @@ fn extend_path(
     operator: PathInfix,
     path: Path,
 ) -> Result<(), StepFault>
-    ensures { MatchResult result (λ _. stack waiting.new.items ≡ machine.path_extended operator (stack waiting.old.items) (program path)) (λ e. e ≡ StepFault.Memory) }
+    ensures {
+        UnlessMemory result (λ _. stack waiting.new.items
+            ≡ machine.path_extended operator (stack waiting.old.items) (program path))
+    }
 {
     let mut made = path;
     while let Some((tighter, left)) = pop_tighter_path(waiting, operator)? {
@@ -254,7 +263,7 @@ pub fn step(
     latest: Latest,
     token: Token,
 ) -> Result<Latest, StepFault>
-    ensures { MatchResult result (λ next. machine.step (state_of waiting.old.items latest) token ≡ Some (state_of waiting.new.items next)) (λ e. Fails e (machine.step (state_of waiting.old.items latest) token ≡ None)) }
+    ensures { Steps result waiting.new.items (machine.step (state_of waiting.old.items latest) token) }
 {
     match latest {
         Latest::FormulaDue => begin_formula(alloc, waiting, token),
@@ -268,7 +277,7 @@ pub fn step(
 
 /// A token where a formula is due.
 fn begin_formula(alloc: Global, waiting: &mut Vec<Item>, token: Token) -> Result<Latest, StepFault>
-    ensures { MatchResult result (λ next. machine.step (machine.Due (stack waiting.old.items)) token ≡ Some (state_of waiting.new.items next)) (λ e. Fails e (machine.step (machine.Due (stack waiting.old.items)) token ≡ None)) }
+    ensures { Steps result waiting.new.items (machine.step (machine.Due (stack waiting.old.items)) token) }
 {
     match token {
         Token::Leaf(l) => Ok(Latest::Formula(leaf(alloc, l)?)),
@@ -295,7 +304,7 @@ fn after_formula(
     operand: Operand,
     token: Token,
 ) -> Result<Latest, StepFault>
-    ensures { MatchResult result (λ next. machine.step (machine.After (stack waiting.old.items) (tree operand.form)) token ≡ Some (state_of waiting.new.items next)) (λ e. Fails e (machine.step (machine.After (stack waiting.old.items) (tree operand.form)) token ≡ None)) }
+    ensures { Steps result waiting.new.items (machine.step (machine.After (stack waiting.old.items) (tree operand.form)) token) }
 {
     match token {
         Token::Infix(operator) => {
@@ -309,7 +318,7 @@ fn after_formula(
 
 /// A token where a path is due.
 fn begin_path(alloc: Global, waiting: &mut Vec<Item>, token: Token) -> Result<Latest, StepFault>
-    ensures { MatchResult result (λ next. machine.step (machine.PathDue (stack waiting.old.items)) token ≡ Some (state_of waiting.new.items next)) (λ e. Fails e (machine.step (machine.PathDue (stack waiting.old.items)) token ≡ None)) }
+    ensures { Steps result waiting.new.items (machine.step (machine.PathDue (stack waiting.old.items)) token) }
 {
     match token {
         Token::Leaf(l) => Ok(Latest::Guard(leaf(alloc, l)?)),
@@ -332,7 +341,7 @@ fn after_guard(
     operand: Operand,
     token: Token,
 ) -> Result<Latest, StepFault>
-    ensures { MatchResult result (λ next. machine.step_guard (stack waiting.old.items) (tree operand.form) token ≡ Some (state_of waiting.new.items next)) (λ e. Fails e (machine.step_guard (stack waiting.old.items) (tree operand.form) token ≡ None)) }
+    ensures { Steps result waiting.new.items (machine.step_guard (stack waiting.old.items) (tree operand.form) token) }
 {
     match token {
         Token::Question => Ok(Latest::Path(test_path(alloc, operand)?)),
@@ -347,7 +356,7 @@ fn after_step(
     operand: Operand,
     token: Token,
 ) -> Result<Latest, StepFault>
-    ensures { MatchResult result (λ next. machine.step_stepped (stack waiting.old.items) (tree operand.form) token ≡ Some (state_of waiting.new.items next)) (λ e. Fails e (machine.step_stepped (stack waiting.old.items) (tree operand.form) token ≡ None)) }
+    ensures { Steps result waiting.new.items (machine.step_stepped (stack waiting.old.items) (tree operand.form) token) }
 {
     if !operand.propositional {
         return Err(StepFault::Refused);
@@ -363,7 +372,7 @@ fn after_path(
     path: Path,
     token: Token,
 ) -> Result<Latest, StepFault>
-    ensures { MatchResult result (λ next. machine.step_based (stack waiting.old.items) (program path) token ≡ Some (state_of waiting.new.items next)) (λ e. Fails e (machine.step_based (stack waiting.old.items) (program path) token ≡ None)) }
+    ensures { Steps result waiting.new.items (machine.step_based (stack waiting.old.items) (program path) token) }
 {
     match token {
         Token::Star => Ok(Latest::Starred(star_path(alloc, path)?)),
@@ -378,7 +387,7 @@ fn after_star(
     path: Path,
     token: Token,
 ) -> Result<Latest, StepFault>
-    ensures { MatchResult result (λ next. machine.step_starred (stack waiting.old.items) (program path) token ≡ Some (state_of waiting.new.items next)) (λ e. Fails e (machine.step_starred (stack waiting.old.items) (program path) token ≡ None)) }
+    ensures { Steps result waiting.new.items (machine.step_starred (stack waiting.old.items) (program path) token) }
 {
     match token {
         Token::PathInfix(operator) => {
