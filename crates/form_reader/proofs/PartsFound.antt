@@ -1,14 +1,16 @@
 -- The search for a part, list after list.
-use Rattle.std.proofs.Common.{◌≡◌, ℕ, zero, suc, ◌+◌, ◌-◌, ◌≤◌, List, [], ◌∷◌, ◌++◌, Some, Result, Ok, Err, MatchResult, IfOk, refl, sym, ap, ◌∙◌, arith, length, slice_get, All, length-append, subst}
+use Rattle.std.proofs.Common.{◌≡◌, ℕ, zero, suc, ◌+◌, ◌-◌, ◌≤◌, List, [], ◌∷◌, ◌++◌, Some, Result, Ok, Err, IfOk, refl, sym, ap, ◌∙◌, arith, length, slice_get, All, length-append, subst}
 use Rattle.std.proofs.lemmas.List.Elements.{All-cons, All-nil, All-append, All-push, All-get_or}
 use Rattle.std.proofs.lemmas.Option.{slice_get_within, get_or_from_slice_get}
 use Rattle.std.specs.Option.{option_map}
-use Rattle.forms.specs.Tree.{Formula, Program, True, False, Atom, Not, And, Or, Implies, Iff, Next, WeakNext, Until, Release, Eventually, Always, Diamond, BoxAll, Step, Test, Choice, Seq, Star}
+use Rattle.std.specs.Borrow.{Bor}
+use Rattle.forms.specs.declared.form.Form.{Form}
+use Rattle.forms.specs.Tree.{tree, Formula, Program, True, False, Atom, Not, And, Or, Implies, Iff, Next, WeakNext, Until, Release, Eventually, Always, Diamond, BoxAll, Step, Test, Choice, Seq, Star}
 use Rattle.forms.specs.Parts.{parts, test_parts, part}
 use Rattle.forms.specs.Proper.{IsProper, IsProperProgram}
 use Rattle.forms.proofs.PartLemmas.{part-at}
 use Rattle.form_reader.specs.Printed.{printed}
-use Rattle.form_reader.specs.PartSearch.{IsItem, IsPast, operand_parts}
+use Rattle.form_reader.specs.PartSearch.{IsItem, IsPast, Finds, operand_parts}
 
 slice_get-left : {A : Type 0} (xs ys : List A) (k : ℕ) (x : A) → slice_get xs k ≡ Some x → slice_get (xs ++ ys) k ≡ Some x
 slice_get-left [] ys k x e = cc
@@ -34,10 +36,9 @@ pub IsPast-both : {A : Type 0} (xs ys : List A) (k left rest : ℕ) → IsPast x
 IsPast-both xs ys k left rest h i = record { by = omega (arith, h.by, i.by, length-append xs ys); some_left = i.some_left }
 
 -- the search goes on in the next list
-pub search-next : {A B : Type 0} (v : B → A) (xs ys : List A) (k left : ℕ) (r : Result B ℕ) → IsPast xs k left
-    → MatchResult r (λ found. IsItem ys left (v found)) (λ rest. IsPast ys left rest) → MatchResult r (λ found. IsItem (xs ++ ys) k (v found)) (λ rest. IsPast (xs ++ ys) k rest)
-search-next v xs ys k left (Ok x) h i = IsItem-right xs ys k left (v x) h i
-search-next v xs ys k left (Err rest) h i = IsPast-both xs ys k left rest h i
+pub search-next : (fs gs : List Formula) (k left : ℕ) (r : Result (Bor Form) ℕ) → IsPast fs k left → Finds r gs left → Finds r (fs ++ gs) k
+search-next fs gs k left (Ok found) h i = IsItem-right fs gs k left (tree found.now) h i
+search-next fs gs k left (Err rest) h i = IsPast-both fs gs k left rest h i
 
 -- past no item
 pub IsPast-none : {A : Type 0} (k : ℕ) → 1 ≤ k → IsPast {A = A} [] k k

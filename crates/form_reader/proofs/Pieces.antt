@@ -1,9 +1,8 @@
 -- Going along a text by index.
 use Rattle.std.proofs.Common.{◌≡◌, ℕ, zero, suc, ◌+◌, ◌-◌, ◌≤◌, ◌<◌, List, [], ◌∷◌, sym, ap, ◌∙◌, arith, Bool, true, false, cond, length, drop, get_or, drop-cons, add-one, add-zero, slice_index, take, refl, nat_le}
 use Rattle.std.proofs.lemmas.List.{length-drop, drop-drop, length-take, take-take, take_all}
-use Rattle.std.proofs.lemmas.Bool.{le-leb}
+use Rattle.std.proofs.lemmas.Bool.{and_from, le-leb}
 use Rattle.std.specs.List.{list_all}
-use Rattle.form_reader.proofs.Propositional.{and-both}
 use Rattle.form_reader.specs.declared.dialect.Dialect.{Dialect}
 use Rattle.form_reader.specs.declared.spelling.Found.{Found}
 use Rattle.form_reader.specs.Words.{is_blank, begins_word, goes_on, word_length, longest_word, begins_with_word, is_word}
@@ -94,7 +93,7 @@ is_word-front (b ∷ bs) h e =
     let on : goes_on b ≡ true = goes_on-begins b e in
     let begins : begins_with_word (take n (b ∷ bs)) ≡ true = rw on e in
     let short : nat_le (length (take n (b ∷ bs))) longest_word ≡ true = le-leb _ longest_word (omega (arith, within, length-take n (b ∷ bs))) in
-    and-both _ _ (and-both _ _ begins every) short
+    and_from _ _ (and_from _ _ begins every) short
 
 -- the bytes of a word, by the indices of the text
 pub IsNamed-at : (text : List ℕ) (at n : ℕ) (l : Lexeme) → IsNamed (lexeme_of l (take n (take (length text - at) (drop at text)))) → IsNamed (lexeme_of l (take (at + n - at) (drop at text)))

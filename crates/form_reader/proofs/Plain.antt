@@ -1,5 +1,6 @@
 -- Whether the formula in a brace is propositional shows in the items since that brace.
 use Rattle.std.proofs.Common.{◌≡◌, suc, ◌≤◌, ◌<◌, List, [], ◌∷◌, refl, sym, ap, ◌∙◌, Bool, true, false, ◌&&◌, leb, inl, inr, ◌⊎◌}
+use Rattle.std.proofs.Math.Bool.{and-false}
 use Rattle.std.proofs.lemmas.Bool.Decides.{leb_tells}
 use Rattle.forms.specs.Tree.{Formula, Program}
 use Rattle.form_reader.specs.declared.token.Prefix.{Prefix}
@@ -28,11 +29,6 @@ abbrev pub plain_of : State → Bool
 plain_of (Due ws) = plain ws
 plain_of (After ws f) = is_propositional f && plain ws
 plain_of _ = false
-
--- a conjunction with false is false
-pub and-false : (b : Bool) → (b && false) ≡ false
-and-false true = refl
-and-false false = refl
 
 -- with a prefix operator before it, a formula is propositional where it was and the operator is `!`
 pub plain-prefixed : (p : Prefix) (f : Formula) (b : Bool) → (is_propositional (prefixed p f) && b) ≡ (is_propositional f && (is_plain_prefix p && b))
@@ -71,8 +67,3 @@ plain-extended o _ f = refl
 pub leaf-plain : (l : Leaf) → is_propositional (leaf_of l) ≡ is_plain_leaf l
 leaf-plain leaf_tokens.True = refl
 leaf-plain _ = refl
-
--- a conjunction with true is its left side
-pub and-true : (b : Bool) → b ≡ (b && true)
-and-true true = refl
-and-true false = refl

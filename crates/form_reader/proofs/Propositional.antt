@@ -1,5 +1,6 @@
 -- The machine's test of steps is the notion of the grammar.
 use Rattle.std.proofs.Common.{◌≡◌, refl, Bool, true, false, ◌&&◌}
+use Rattle.std.proofs.lemmas.Bool.{and_from}
 use Rattle.forms.specs.Tree.{Formula}
 use Rattle.forms.specs.Tree as formula
 use Rattle.forms.specs.Proper.{IsPropositional}
@@ -15,20 +16,16 @@ pub and-right : (a b : Bool) → (a && b) ≡ true → b ≡ true
 and-right true b e = e
 and-right false b e = cc
 
--- of two true sides the conjunction is true
-pub and-both : (a b : Bool) → a ≡ true → b ≡ true → (a && b) ≡ true
-and-both a b e d = rw (e, d)
-
 -- what the grammar calls propositional passes the test
 pub is_propositional-true : (f : Formula) → IsPropositional f → is_propositional f ≡ true
 is_propositional-true formula.True h = refl
 is_propositional-true formula.False h = refl
 is_propositional-true (formula.Atom i) h = refl
 is_propositional-true (formula.Not f) h = is_propositional-true f h
-is_propositional-true (formula.And f g) h = and-both _ _ (is_propositional-true f h.0) (is_propositional-true g h.1)
-is_propositional-true (formula.Or f g) h = and-both _ _ (is_propositional-true f h.0) (is_propositional-true g h.1)
-is_propositional-true (formula.Implies f g) h = and-both _ _ (is_propositional-true f h.0) (is_propositional-true g h.1)
-is_propositional-true (formula.Iff f g) h = and-both _ _ (is_propositional-true f h.0) (is_propositional-true g h.1)
+is_propositional-true (formula.And f g) h = and_from _ _ (is_propositional-true f h.0) (is_propositional-true g h.1)
+is_propositional-true (formula.Or f g) h = and_from _ _ (is_propositional-true f h.0) (is_propositional-true g h.1)
+is_propositional-true (formula.Implies f g) h = and_from _ _ (is_propositional-true f h.0) (is_propositional-true g h.1)
+is_propositional-true (formula.Iff f g) h = and_from _ _ (is_propositional-true f h.0) (is_propositional-true g h.1)
 is_propositional-true _ h = absurd h
 
 -- and what passes the test is propositional

@@ -1,5 +1,6 @@
 -- The machine goes by the table, and its items without their trees are those that the table counts.
 use Rattle.std.proofs.Common.{◌≡◌, suc, ◌≤◌, ◌<◌, List, [], ◌∷◌, Option, Some, None, refl, sym, ap, ◌∙◌, arith, Bool, true, false, ◌&&◌, cond, not, leb, inl, inr, ◌⊎◌, length}
+use Rattle.std.proofs.Math.Bool.{and-false, and-true}
 use Rattle.std.proofs.lemmas.Bool.Decides.{leb_tells}
 use Rattle.std.proofs.lemmas.Bool.{le-ltb}
 use Rattle.std.specs.Option.{IfSome, is_some}
@@ -18,7 +19,7 @@ use Rattle.form_reader.specs.Admitted as row
 use Rattle.form_reader.specs.Admitted.{Row, Scan, lists, is_closing, fits, admits, after, guard_row, closed_row, may_end, is_plain_leaf, is_plain_infix}
 use Rattle.form_reader.specs.Machine.{Item, Bracket, PathBracket, Brace, Angle, Before, Behind, Between, PathBetween, State, Due, After, PathDue, GuardRead, Based, Starred, extended, path_extended, closed, path_closed, finished, step_starred, step_based, step_guard, step, finish, waits, is_propositional}
 use Rattle.form_reader.proofs.Complete.{Fits, PathFits, level-below}
-use Rattle.form_reader.proofs.Plain.{plain, plain_of, plain-prefixed, plain-behind, plain-joined, plain-extended, leaf-plain, and-true, and-false}
+use Rattle.form_reader.proofs.Plain.{plain, plain_of, plain-prefixed, plain-behind, plain-joined, plain-extended, leaf-plain}
 use Rattle.form_reader.proofs.Shapes.{IsShaped, Shaped}
 
 -- the kinds of the items
@@ -131,7 +132,7 @@ closed-CloseBrace : (ws : List Item) (f : Formula) (c : Bool) → (is_propositio
 closed-CloseBrace (Before p ∷ ws) f c e = closed-CloseBrace ws (prefixed p f) c (plain-prefixed p f (plain ws) ∙ e)
 closed-CloseBrace (Behind m p ∷ ws) f c e = closed-CloseBrace ws (behind m p f) c (plain-behind m p f (plain ws) ∙ e)
 closed-CloseBrace (Between q g ∷ ws) f c e = closed-CloseBrace ws (joined q g f) c (plain-joined q g f (plain ws) ∙ e)
-closed-CloseBrace (Brace ∷ ws) f c e = ap (λ b. scan (guard_row b) (kinds ws) false) (and-true (is_propositional f) ∙ e)
+closed-CloseBrace (Brace ∷ ws) f c e = ap (λ b. scan (guard_row b) (kinds ws) false) (sym (and-true (is_propositional f)) ∙ e)
 closed-CloseBrace _ f c e = tt
 
 -- no other token closes a formula

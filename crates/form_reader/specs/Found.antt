@@ -1,12 +1,12 @@
 -- What the program found, as a piece of the text.
-use Rattle.std.specs.Prelude.{◌≡◌, ℕ, ◌+◌, ◌-◌, ◌≤◌, true, length, List, take, drop, slice_index}
+use Rattle.std.specs.Prelude.{◌≡◌, ℕ, zero, ◌+◌, ◌-◌, ◌≤◌, Bool, true, length, List, [], ◌∷◌, Option, Some, None, take, drop, slice_index}
 use Rattle.form_reader.specs.declared.dialect.Dialect.{Dialect}
 use Rattle.form_reader.specs.declared.spelling.Lexeme.{Lexeme}
 use Rattle.form_reader.specs.declared.spelling.Lexeme.TheVariants as lexemes
 use Rattle.form_reader.specs.declared.spelling.Found.{Found}
 use Rattle.form_reader.specs.Words.{begins_word, is_name}
 use Rattle.form_reader.specs.Spelling as spelling
-use Rattle.form_reader.specs.Spelling.{piece_at}
+use Rattle.form_reader.specs.Spelling.{piece_at, pieces}
 
 -- the lexeme of the bytes
 abbrev pub lexeme_of : Lexeme → List ℕ → spelling.Lexeme
@@ -37,3 +37,12 @@ pub record IsPieceAt (d : Dialect) (f : Found) (text : List ℕ) (at : ℕ) : Ty
   pub to : f.to ≡ at + (piece_at d (drop at text)).size
   pub lexeme : lexeme_of f.lexeme (take (f.to - f.from) (drop f.from text)) ≡ (piece_at d (drop at text)).lexeme
   pub is_word : f.is_word ≡ begins_word (slice_index (drop at text) 0)
+
+-- the lexemes from the byte on; `in_word`: a word ends right before it
+abbrev pub lexemes_from : Dialect → List ℕ → ℕ → Bool → List (ℕ × spelling.Lexeme)
+lexemes_from d text from in_word = pieces d zero in_word (from + 1) (drop from text)
+
+-- what was found is the first of the lexemes, and the others are those behind it; where nothing was found, there are none
+abbrev pub IsFirst : Option Found → Dialect → List ℕ → List (ℕ × spelling.Lexeme) → Type 0
+IsFirst None d text ls = ls ≡ []
+IsFirst (Some f) d text ls = ls ≡ lexeme_at f text ∷ lexemes_from d text f.to f.is_word

@@ -11,6 +11,7 @@ pub mod Outcome
 pub mod Blames
 pub mod Found
 pub mod Stack
+pub mod Turns
 pub mod Printed
 pub mod Dialects
 pub mod ReadBack

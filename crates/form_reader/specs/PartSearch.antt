@@ -1,6 +1,8 @@
 -- The search for an item of a list by its number.
-use Rattle.std.specs.Prelude.{◌≡◌, ◌≤◌, ◌+◌, ◌-◌, ◌++◌, ℕ, List, [], Some, length, slice_get}
-use Rattle.forms.specs.Tree.{Formula, True, False, Atom, Not, And, Or, Implies, Iff, Next, WeakNext, Until, Release, Eventually, Always, Diamond, BoxAll}
+use Rattle.std.specs.Prelude.{◌≡◌, ◌≤◌, ◌+◌, ◌-◌, ◌++◌, ℕ, List, [], Some, Result, Ok, Err, length, slice_get}
+use Rattle.std.specs.Borrow.{Bor}
+use Rattle.forms.specs.declared.form.Form.{Form}
+use Rattle.forms.specs.Tree.{tree, Formula, True, False, Atom, Not, And, Or, Implies, Iff, Next, WeakNext, Until, Release, Eventually, Always, Diamond, BoxAll}
 use Rattle.forms.specs.Parts.{parts, test_parts}
 
 -- the item has the number in the list, counted from 1
@@ -11,6 +13,11 @@ pub record IsItem {A : Type 0} (xs : List A) (k : ℕ) (x : A) : Type 0 where
 pub record IsPast {A : Type 0} (xs : List A) (k left : ℕ) : Type 0 where
   pub by : k ≡ length xs + left
   pub some_left : 1 ≤ left
+
+-- what was found is the formula with the number in the list; or the number is past its end, by so many
+abbrev pub Finds : Result (Bor Form) ℕ → List Formula → ℕ → Type 0
+Finds (Ok found) fs k = IsItem fs k (tree found.now)
+Finds (Err left) fs k = IsPast fs k left
 
 -- the parts before the formula itself
 abbrev pub operand_parts : Formula → List Formula

@@ -57,3 +57,15 @@ abbrev mutual
   printed_path ns (Choice p q) = bracketed (printed_path ns p) (codes " + ") (printed_path ns q)
   printed_path ns (Seq p q) = bracketed (printed_path ns p) (codes " ; ") (printed_path ns q)
   printed_path ns (Star p) = starred p (printed_path ns p)
+
+-- two formulas in brackets with a sign between them
+abbrev pub printed_joined : List (List ℕ) → Formula → List ℕ → Formula → List ℕ
+printed_joined ns f sign g = bracketed (printed ns f) sign (printed ns g)
+
+-- the same of two paths
+abbrev pub printed_paths : List (List ℕ) → Program → List ℕ → Program → List ℕ
+printed_paths ns p sign q = bracketed (printed_path ns p) sign (printed_path ns q)
+
+-- a path between its brackets, and the formula behind it
+abbrev pub printed_modal : List (List ℕ) → List ℕ → Program → List ℕ → Formula → List ℕ
+printed_modal ns opening p closing f = opening ++ printed_path ns p ++ closing ++ printed ns f

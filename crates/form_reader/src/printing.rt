@@ -1,10 +1,10 @@
 //! Formulas as texts that are read back as themselves.
 ghost use Rattle.std.specs.Prelude.{◌≡◌, ◌≤◌, ◌++◌, codes, IfOk, OnOk, length, Some, option_map};
-ghost use Rattle.forms.specs.Tree.{tree, program};
+ghost use Rattle.forms.specs.Tree.{tree, program, Star};
 ghost use Rattle.forms.specs.Parts as listed;
 ghost use Rattle.forms.specs.Proper.{IsProper, IsProperProgram};
 ghost use Rattle.form_reader.specs.Printed as texts;
-ghost use Rattle.form_reader.specs.Printed.{printed, printed_path, bracketed, in_braces, starred};
+ghost use Rattle.form_reader.specs.Printed.{printed, printed_path, printed_joined, printed_paths, printed_modal, in_braces};
 ghost use Rattle.form_reader.specs.Names.{Table};
 ghost use Rattle.form_reader.specs.ReadBack.{AreNumberedIn, ReadsBack};
 
@@ -25,7 +25,10 @@ pub fn print_form(alloc: Global, form: &Form, names: &Names) -> Result<Text, Mem
     ensures reads { IfOk result (λ text. ReadsBack names.now text (tree form.now)) }
 
     // So does any table in which each of the names has the same number.
-    ensures reads_elsewhere { IfOk result (λ text. (others : Table) → AreNumberedIn names.now.names others.names → ReadsBack others text (tree form.now)) }
+    ensures reads_elsewhere {
+        IfOk result (λ text. (others : Table) → AreNumberedIn names.now.names others.names
+            → ReadsBack others text (tree form.now))
+    }
 {
     // Reading back rests on the names being different, which this call says.
     let _ = names.len();
@@ -94,7 +97,7 @@ fn print_joined(
 ) -> Result<(), Memory>
     requires left { IsProper (length names.now.names) (tree left.now) }
     requires right { IsProper (length names.now.names) (tree right.now) }
-    ensures { OnOk result (text.new ≡ text.old ++ bracketed (printed names.now.names (tree left.now)) sign.now (printed names.now.names (tree right.now))) }
+    ensures { OnOk result (text.new ≡ text.old ++ printed_joined names.now.names (tree left.now) sign.now (tree right.now)) }
 {
     text.push(b"(")?;
     print(text, left, names)?;
@@ -115,7 +118,10 @@ fn print_modal(
 ) -> Result<(), Memory>
     requires path { IsProperProgram (length names.now.names) (program path.now) }
     requires form { IsProper (length names.now.names) (tree form.now) }
-    ensures { OnOk result (text.new ≡ text.old ++ (opening.now ++ printed_path names.now.names (program path.now) ++ closing.now ++ printed names.now.names (tree form.now))) }
+    ensures {
+        OnOk result (text.new
+            ≡ text.old ++ printed_modal names.now.names opening.now (program path.now) closing.now (tree form.now))
+    }
 {
     text.push(opening)?;
     print_path(text, path, names)?;
@@ -173,7 +179,7 @@ fn print_paths(
 ) -> Result<(), Memory>
     requires left { IsProperProgram (length names.now.names) (program left.now) }
     requires right { IsProperProgram (length names.now.names) (program right.now) }
-    ensures { OnOk result (text.new ≡ text.old ++ bracketed (printed_path names.now.names (program left.now)) sign.now (printed_path names.now.names (program right.now))) }
+    ensures { OnOk result (text.new ≡ text.old ++ printed_paths names.now.names (program left.now) sign.now (program right.now)) }
 {
     text.push(b"(")?;
     print_path(text, left, names)?;
@@ -186,7 +192,7 @@ fn print_paths(
 #[cycle(print)]
 fn print_starred(text: &mut Text, path: &Path, names: &Names) -> Result<(), Memory>
     requires { IsProperProgram (length names.now.names) (program path.now) }
-    ensures { OnOk result (text.new ≡ text.old ++ starred (program path.now) (printed_path names.now.names (program path.now))) }
+    ensures { OnOk result (text.new ≡ text.old ++ printed_path names.now.names (Star (program path.now))) }
 {
     if !is_starred(path) {
         print_path(text, path, names)?;

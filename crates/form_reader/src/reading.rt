@@ -1,18 +1,18 @@
-ghost use Rattle.std.specs.Prelude.{◌≡◌, ◌<◌, ◌≤◌, ◌+◌, ◌^◌, ◌↔◌, nat_le, MatchResult, true, false, Ok, Err, Some, None, [], IfOk, IfErr, OnOk, OnErr, length, take};
+ghost use Rattle.std.specs.Prelude.{◌≡◌, ◌<◌, ◌+◌, ◌^◌, ◌↔◌, true, Ok, Some, None, [], IfOk, IfErr, OnOk, OnErr, length, take};
 ghost use Rattle.forms.specs.Tree.{Formula, tree, nodes};
 ghost use Rattle.forms.specs.Proper.{IsProper};
 ghost use Rattle.form_reader.specs.Words.{is_name};
-ghost use Rattle.form_reader.specs.Names.{number_of, included};
+ghost use Rattle.form_reader.specs.Names.{number_of};
 ghost use Rattle.form_reader.specs.Grammar.{IsText};
 ghost use Rattle.form_reader.specs.Admitted.{IsAdmitted};
 ghost use Rattle.form_reader.specs.Spelling.{Word, lexemes};
-ghost use Rattle.form_reader.specs.Faults.{token_of, is_bad, most_tokens, name_fault, names_with};
 ghost use Rattle.form_reader.specs.Reading.{IsFormulaOf, refusal, tokens_of, names_of, KeepsNames};
 ghost use Rattle.form_reader.specs.Machine.{Due, finish};
-ghost use Rattle.form_reader.specs.Outcome.{Stage, turn, outcome, ended, stage_of};
+ghost use Rattle.form_reader.specs.Outcome.{outcome, ended, stage_of};
 ghost use Rattle.form_reader.specs.Blames.{Blames, Answers};
-ghost use Rattle.form_reader.specs.Found.{lexeme_in, lexeme_at, IsWithin};
+ghost use Rattle.form_reader.specs.Found.{lexeme_at, IsWithin};
 ghost use Rattle.form_reader.specs.Stack.{state_of};
+ghost use Rattle.form_reader.specs.Turns.{GivesToken, AddsName, Turns, stage_at};
 
 use crate::dialect::Dialect;
 use crate::fault::FormFault;
@@ -33,7 +33,7 @@ const MOST_NAMES: u32 = 32;
 /// The token of a lexeme, if the rules before the table admit one.
 fn token_at(names: &Names, text: &[u8], found: &Found, count: usize) -> Result<Token, FormFault>
     requires { IsWithin found.now text.now }
-    ensures { MatchResult result (λ token. (is_bad (lexeme_in found.now text.now) ≡ false) × (nat_le most_tokens count ≡ false) × (token ≡ token_of names.now.names (lexeme_in found.now text.now))) (λ e. Blames e ((stage : Stage) → stage.count ≡ count → turn names.now.closed stage (lexeme_at found.now text.now) ≡ Err e)) }
+    ensures { GivesToken result names.now count (lexeme_at found.now text.now) }
 {
     let token = match found.lexeme {
         Lexeme::Bad => return Err(FormFault::BadByte {
@@ -73,7 +73,7 @@ fn number(names: &Names, name: &[u8]) -> u32
 /// Puts a name into the table where it is not there.
 fn include(names: &mut Names, name: &[u8], at: u64) -> Result<(), FormFault>
     requires { is_name name.now ≡ true }
-    ensures done { MatchResult result (λ _. (name_fault names.old.closed names.old.names at (Word name.now) ≡ None) × (names.new.names ≡ included names.old.names name.now)) (λ e. Blames e (name_fault names.old.closed names.old.names at (Word name.now) ≡ Some e)) }
+    ensures done { AddsName result names.old (at, Word name.now) names.new.names }
     ensures closed { names.new.closed ≡ names.old.closed }
     ensures kept { OnErr result (names.new.names ≡ names.old.names) }
 {
@@ -95,7 +95,7 @@ fn include(names: &mut Names, name: &[u8], at: u64) -> Result<(), FormFault>
 /// Puts the name of a lexeme into the table, if it is a name.
 fn add_name(names: &mut Names, text: &[u8], found: &Found) -> Result<(), FormFault>
     requires { IsWithin found.now text.now }
-    ensures done { MatchResult result (λ _. (name_fault names.old.closed names.old.names (found.now.from + 1) (lexeme_in found.now text.now) ≡ None) × (names.new.names ≡ names_with names.old.names (lexeme_in found.now text.now))) (λ e. Blames e (name_fault names.old.closed names.old.names (found.now.from + 1) (lexeme_in found.now text.now) ≡ Some e)) }
+    ensures done { AddsName result names.old (lexeme_at found.now text.now) names.new.names }
     ensures closed { names.new.closed ≡ names.old.closed }
     ensures kept { OnErr result (names.new.names ≡ names.old.names) }
 {
@@ -119,7 +119,12 @@ fn read_one(
     count: usize,
 ) -> Result<Latest, FormFault>
     requires { IsWithin found.now text.now }
-    ensures done { MatchResult result (λ next. turn names.old.closed (stage_of names.old.names count (state_of waiting.old.items latest)) (lexeme_at found.now text.now) ≡ Ok (stage_of names.new.names (count + 1) (state_of waiting.new.items next))) (λ e. Blames e (turn names.old.closed (stage_of names.old.names count (state_of waiting.old.items latest)) (lexeme_at found.now text.now) ≡ Err e)) }
+    ensures done {
+        Turns result names.old.closed
+            (stage_at names.old.names count waiting.old.items latest)
+            (lexeme_at found.now text.now)
+            (λ next. stage_at names.new.names (count + 1) waiting.new.items next)
+    }
     ensures closed { names.new.closed ≡ names.old.closed }
     ensures kept { OnErr result (names.new.names ≡ names.old.names) }
 {
@@ -210,18 +215,27 @@ pub fn read_form(
     ensures place { IfErr result (λ e. Blames e (refusal dialect names.old text.now ≡ Some e)) }
 
     // A text that no rule refuses is that of a formula, and the other way round.
-    ensures complete { (refusal dialect names.old text.now ≡ None) ↔ ((f : Formula) × IsFormulaOf dialect names.old text.now f) }
+    ensures complete {
+        (refusal dialect names.old text.now ≡ None) ↔ ((f : Formula) × IsFormulaOf dialect names.old text.now f)
+    }
 
     // The tokens have a tree exactly where the table admits them.
-    ensures table { let tokens = tokens_of dialect names.old text.now in ((f : Formula) × IsText tokens f) ↔ IsAdmitted tokens }
+    ensures table {
+        let tokens = tokens_of dialect names.old text.now in
+        ((f : Formula) × IsText tokens f) ↔ IsAdmitted tokens
+    }
 
     // They have at most one.
-    ensures one_tree { let tokens = tokens_of dialect names.old text.now in (f g : Formula) → IsText tokens f → IsText tokens g → f ≡ g }
+    ensures one_tree {
+        let tokens = tokens_of dialect names.old text.now in
+        (f g : Formula) → IsText tokens f → IsText tokens g → f ≡ g
+    }
 
     // New names go last, in order of first use.
     ensures names { OnOk result (names.new.names ≡ names_of dialect names.old text.now) }
 
-    // After a refusal the names of the tokens before the place are there, after want of memory those of some of these at the front.
+    // After a refusal the names of the tokens before the place are there, after want of memory those of some of these
+    // at the front.
     ensures left { IfErr result (λ e. KeepsNames e dialect names.old text.now names.new.names) }
 
     // Names keep their numbers.

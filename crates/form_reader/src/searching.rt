@@ -1,8 +1,8 @@
 //! The part of a formula with a number, by one descent that counts down.
-ghost use Rattle.std.specs.Prelude.{◌≤◌, ◌++◌, MatchResult};
+ghost use Rattle.std.specs.Prelude.{◌≤◌, ◌++◌};
 ghost use Rattle.forms.specs.Tree.{tree, program};
 ghost use Rattle.forms.specs.Parts as listed;
-ghost use Rattle.form_reader.specs.PartSearch.{operand_parts, IsItem, IsPast};
+ghost use Rattle.form_reader.specs.PartSearch.{operand_parts, Finds};
 
 use forms::{Form, Path};
 
@@ -11,7 +11,7 @@ use forms::{Form, Path};
 #[tactic(auto, using(crate::proofs::PartsFound::itself))]
 pub fn find_part<'a>(form: &'a Form, part: u64) -> Result<&'a Form, u64>
     requires { 1 ≤ part }
-    ensures { MatchResult result (λ found. IsItem (listed.parts (tree form.now)) part (tree found.now)) (λ left. IsPast (listed.parts (tree form.now)) part left) }
+    ensures { Finds result (listed.parts (tree form.now)) part }
 {
     match find_in_operands(form, part) {
         Ok(found) => Ok(found),
@@ -25,7 +25,7 @@ pub fn find_part<'a>(form: &'a Form, part: u64) -> Result<&'a Form, u64>
 #[tactic(auto, using(crate::proofs::PartsFound::found))]
 fn find_in_operands<'a>(form: &'a Form, part: u64) -> Result<&'a Form, u64>
     requires { 1 ≤ part }
-    ensures { MatchResult result (λ found. IsItem (operand_parts (tree form.now)) part (tree found.now)) (λ left. IsPast (operand_parts (tree form.now)) part left) }
+    ensures { Finds result (operand_parts (tree form.now)) part }
 {
     match form {
         Form::True => Err(part),
@@ -52,7 +52,7 @@ fn find_in_operands<'a>(form: &'a Form, part: u64) -> Result<&'a Form, u64>
 #[tactic(auto, using(crate::proofs::PartsFound::found))]
 fn find_in_both<'a>(left: &'a Form, right: &'a Form, part: u64) -> Result<&'a Form, u64>
     requires { 1 ≤ part }
-    ensures { MatchResult result (λ found. IsItem (listed.parts (tree left.now) ++ listed.parts (tree right.now)) part (tree found.now)) (λ rest. IsPast (listed.parts (tree left.now) ++ listed.parts (tree right.now)) part rest) }
+    ensures { Finds result (listed.parts (tree left.now) ++ listed.parts (tree right.now)) part }
 {
     match find_part(left, part) {
         Ok(found) => Ok(found),
@@ -65,7 +65,7 @@ fn find_in_both<'a>(left: &'a Form, right: &'a Form, part: u64) -> Result<&'a Fo
 #[tactic(auto, using(crate::proofs::PartsFound::found))]
 fn find_behind<'a>(path: &'a Path, form: &'a Form, part: u64) -> Result<&'a Form, u64>
     requires { 1 ≤ part }
-    ensures { MatchResult result (λ found. IsItem (listed.test_parts (program path.now) ++ listed.parts (tree form.now)) part (tree found.now)) (λ rest. IsPast (listed.test_parts (program path.now) ++ listed.parts (tree form.now)) part rest) }
+    ensures { Finds result (listed.test_parts (program path.now) ++ listed.parts (tree form.now)) part }
 {
     match find_in_tests(path, part) {
         Ok(found) => Ok(found),
@@ -78,7 +78,7 @@ fn find_behind<'a>(path: &'a Path, form: &'a Form, part: u64) -> Result<&'a Form
 #[tactic(auto, using(crate::proofs::PartsFound::found))]
 fn find_in_tests<'a>(path: &'a Path, part: u64) -> Result<&'a Form, u64>
     requires { 1 ≤ part }
-    ensures { MatchResult result (λ found. IsItem (listed.test_parts (program path.now)) part (tree found.now)) (λ rest. IsPast (listed.test_parts (program path.now)) part rest) }
+    ensures { Finds result (listed.test_parts (program path.now)) part }
 {
     match path {
         Path::Step(_) => Err(part),
@@ -94,7 +94,7 @@ fn find_in_tests<'a>(path: &'a Path, part: u64) -> Result<&'a Form, u64>
 #[tactic(auto, using(crate::proofs::PartsFound::found))]
 fn find_in_paths<'a>(left: &'a Path, right: &'a Path, part: u64) -> Result<&'a Form, u64>
     requires { 1 ≤ part }
-    ensures { MatchResult result (λ found. IsItem (listed.test_parts (program left.now) ++ listed.test_parts (program right.now)) part (tree found.now)) (λ rest. IsPast (listed.test_parts (program left.now) ++ listed.test_parts (program right.now)) part rest) }
+    ensures { Finds result (listed.test_parts (program left.now) ++ listed.test_parts (program right.now)) part }
 {
     match find_in_tests(left, part) {
         Ok(found) => Ok(found),

@@ -1,8 +1,7 @@
-ghost use Rattle.std.specs.Prelude.{◌≡◌, ◌<◌, ◌≤◌, ◌+◌, ◌∷◌, [], IfSome, MatchOption, length, take, drop, zero, true, false, slice_index};
+ghost use Rattle.std.specs.Prelude.{◌≡◌, ◌<◌, ◌≤◌, IfSome, length, take, true, false, slice_index};
 ghost use Rattle.form_reader.specs.Words as words;
 ghost use Rattle.form_reader.specs.Spelling as spelling;
-ghost use Rattle.form_reader.specs.Spelling.{pieces};
-ghost use Rattle.form_reader.specs.Found.{lexeme_of, lexeme_at, IsPieceAt, IsNamed, IsWithin};
+ghost use Rattle.form_reader.specs.Found.{lexeme_of, IsPieceAt, IsNamed, IsWithin, lexemes_from, IsFirst};
 
 use crate::dialect::Dialect;
 use crate::token::{Infix, Leaf, Modality, PathInfix, Prefix, Token};
@@ -249,7 +248,7 @@ fn front(text: &[u8]) -> &[u8]
 #[tactic(auto, using(crate::proofs::Pieces::steps))]
 fn next_apart(dialect: Dialect, text: &[u8], from: usize) -> Option<Found>
     requires { from ≤ length text.now }
-    ensures value { MatchOption result (pieces dialect zero false (from + 1) (drop from text.now) ≡ []) (λ found. pieces dialect zero false (from + 1) (drop from text.now) ≡ lexeme_at found text.now ∷ pieces dialect zero found.is_word (found.to + 1) (drop found.to text.now)) }
+    ensures value { IsFirst result dialect text.now (lexemes_from dialect text.now from false) }
     ensures within { IfSome result (λ found. IsWithin found text.now) }
     ensures later { IfSome result (λ found. from < found.to) }
 {
@@ -267,7 +266,7 @@ fn next_apart(dialect: Dialect, text: &[u8], from: usize) -> Option<Found>
 #[tactic(auto, using(crate::proofs::Pieces::word_ends))]
 pub fn next(dialect: Dialect, text: &[u8], from: usize, in_word: bool) -> Option<Found>
     requires { from ≤ length text.now }
-    ensures value { MatchOption result (pieces dialect zero in_word (from + 1) (drop from text.now) ≡ []) (λ found. pieces dialect zero in_word (from + 1) (drop from text.now) ≡ lexeme_at found text.now ∷ pieces dialect zero found.is_word (found.to + 1) (drop found.to text.now)) }
+    ensures value { IsFirst result dialect text.now (lexemes_from dialect text.now from in_word) }
     ensures within { IfSome result (λ found. IsWithin found text.now) }
     ensures later { IfSome result (λ found. from < found.to) }
 {
