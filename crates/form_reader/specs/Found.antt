@@ -42,7 +42,7 @@ pub record IsPieceAt (d : Dialect) (f : Found) (text : List ℕ) (at : ℕ) : Ty
 abbrev pub lexemes_from : Dialect → List ℕ → ℕ → Bool → List (ℕ × spelling.Lexeme)
 lexemes_from d text from in_word = pieces d zero in_word (from + 1) (drop from text)
 
--- what was found is the first of the lexemes, and the others are those behind it; where nothing was found, there are none
+-- what was found is the first of the lexemes, before those behind it; if nothing was, there are none
 abbrev pub IsFirst : Option Found → Dialect → List ℕ → List (ℕ × spelling.Lexeme) → Type 0
 IsFirst None d text ls = ls ≡ []
 IsFirst (Some f) d text ls = ls ≡ lexeme_at f text ∷ lexemes_from d text f.to f.is_word

@@ -71,7 +71,7 @@ abbrev pub Gives : Result Form StepFault → Option Formula → Type 0
 Gives (Ok f) found = found ≡ Some (tree f)
 Gives (Err e) found = Fails e (found ≡ None)
 
--- the token takes what waited to this state, or it is refused where there is no such state, unless memory ran out
+-- the token leads to this state, or is refused where there is none, unless memory ran out
 abbrev pub Steps : Result Latest StepFault → List Item → Option machine.State → Type 0
 Steps (Ok next) waiting found = found ≡ Some (state_of waiting next)
 Steps (Err e) waiting found = Fails e (found ≡ None)
@@ -86,7 +86,7 @@ abbrev pub UnlessMemory : {A : Type 0} → Result A StepFault → (A → Type 0)
 UnlessMemory (Ok x) P = P x
 UnlessMemory (Err e) P = e ≡ faults.Memory
 
--- the operator that is taken away is applied before the binary one comes to wait; where there is none, that one waits last
+-- what is taken away is applied before the operator comes to wait; if nothing is, the operator waits last
 abbrev pub Loosens : Infix → Option Operator → List machine.Item → List machine.Item → Type 0
 Loosens o None before after = (f : Formula) → machine.extended o before f ≡ machine.Between o f ∷ after
 Loosens o (Some tighter) before after = (f : Formula) → machine.extended o before f ≡ machine.extended o after (applied tighter f)

@@ -11,7 +11,7 @@ use Rattle.form_reader.specs.Outcome.{Stage, turn, stage_of}
 use Rattle.form_reader.specs.Blames.{Blames}
 use Rattle.form_reader.specs.Stack.{state_of}
 
--- the token of the lexeme, which is neither bad nor one too many, or its fault in each stage with so many tokens
+-- the token of the lexeme, neither bad nor one too many; or its fault in each stage with so many tokens
 abbrev pub GivesToken : Result Token FormFault → Table → ℕ → ℕ × Lexeme → Type 0
 GivesToken (Ok token) names count l = (is_bad l.1 ≡ false) × (nat_le most_tokens count ≡ false) × (token ≡ token_of names.names l.1)
 GivesToken (Err e) names count l = Blames e ((stage : Stage) → stage.count ≡ count → turn names.closed stage l ≡ Err e)
