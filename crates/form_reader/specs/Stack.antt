@@ -1,5 +1,5 @@
 -- What waits in the program, as the items of the machine.
-use Rattle.std.specs.Prelude.{◌≡◌, List, ◌∷◌, Option, Some, None, Result, Ok, Err, map, reverse}
+use Rattle.std.specs.Prelude.{◌≡◌, Bool, true, false, nat_lt, List, ◌∷◌, Option, Some, None, Result, Ok, Err, map, reverse}
 use Rattle.forms.specs.declared.form.Form.{Form}
 use Rattle.forms.specs.declared.form.Path.{Path}
 use Rattle.forms.specs.Tree.{Formula, Program, tree, program}
@@ -16,7 +16,7 @@ use Rattle.form_reader.specs.declared.item.Item.{Item}
 use Rattle.form_reader.specs.declared.item.Item.TheVariants as items
 use Rattle.form_reader.specs.declared.item.Latest.{Latest}
 use Rattle.form_reader.specs.declared.item.Latest.TheVariants as latests
-use Rattle.form_reader.specs.Grammar.{prefixed, behind, joined, path_joined}
+use Rattle.form_reader.specs.Grammar.{prefixed, behind, joined, path_joined, level, path_level}
 use Rattle.form_reader.specs.Machine as machine
 
 -- an open bracket
@@ -85,6 +85,18 @@ Closes (Err e) b f token = Fails e ((ws : List machine.Item) → machine.closed 
 abbrev pub UnlessMemory : {A : Type 0} → Result A StepFault → (A → Type 0) → Type 0
 UnlessMemory (Ok x) P = P x
 UnlessMemory (Err e) P = e ≡ faults.Memory
+
+-- the item is applied before the binary operator comes to wait
+abbrev pub tighter_than : Infix → machine.Item → Bool
+tighter_than o (machine.Before p) = true
+tighter_than o (machine.Behind m p) = true
+tighter_than o (machine.Between q f) = nat_lt (level o) (level q)
+tighter_than o w = false
+
+-- the item is applied before the operator between paths comes to wait
+abbrev pub path_tighter_than : PathInfix → machine.Item → Bool
+path_tighter_than o (machine.PathBetween q p) = nat_lt (path_level o) (path_level q)
+path_tighter_than o w = false
 
 -- what is taken away is applied before the operator comes to wait; if nothing is, the operator waits last
 abbrev pub Loosens : Infix → Option Operator → List machine.Item → List machine.Item → Type 0

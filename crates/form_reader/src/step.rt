@@ -2,7 +2,8 @@ ghost use Rattle.std.specs.Prelude.{◌≡◌, ◌<◌, IfSome, ◌∷◌, vec_l
 ghost use Rattle.forms.specs.Tree.{tree, program};
 ghost use Rattle.form_reader.specs.Grammar as grammar;
 ghost use Rattle.form_reader.specs.Machine as machine;
-ghost use Rattle.form_reader.specs.Stack.{bracket, stack, state_of, Gives, Steps, Closes, UnlessMemory, Loosens, LoosensPath};
+ghost use Rattle.form_reader.specs.Stack.{bracket, stack, state_of, Gives, Steps, Closes};
+ghost use Rattle.form_reader.specs.Stack.{item as item_of, tighter_than, path_tighter_than, UnlessMemory, Loosens, LoosensPath};
 
 use crate::building::{apply, joined_paths, leaf, star_path, step_path, test_path};
 use crate::item::{Bracket, Item, Latest, Operator};
@@ -159,31 +160,35 @@ pub fn finish(alloc: Global, waiting: &mut Vec<Item>, operand: Operand) -> Resul
     Ok(made.form)
 }
 
-/// Takes the latest item away if it is applied before a binary operator comes to wait.
-fn pop_tighter(waiting: &mut Vec<Item>, operator: Infix) -> Result<Option<Operator>, StepFault>
-    ensures found { UnlessMemory result (λ found. Loosens operator found (stack waiting.old.items) (stack waiting.new.items)) }
-    ensures shorter { UnlessMemory result (λ found. IfSome found (λ tighter. vec_len waiting.new < vec_len waiting.old)) }
+/// Whether an item is applied before a binary operator comes to wait.
+fn is_tighter(item: &Item, operator: Infix) -> bool
+    ensures { result ≡ tighter_than operator (item_of item.now) }
 {
-    match waiting.pop() {
-        None => Ok(None),
-        Some(Item::Bracket(b)) => {
-            waiting.push(Item::Bracket(b))?;
-            Ok(None)
-        }
-        Some(Item::PathOperator(q, left)) => {
-            waiting.push(Item::PathOperator(q, left))?;
-            Ok(None)
-        }
-        Some(Item::Operator(Operator::Before(p))) => Ok(Some(Operator::Before(p))),
-        Some(Item::Operator(Operator::Behind(m, p))) => Ok(Some(Operator::Behind(m, p))),
-        Some(Item::Operator(Operator::Between(q, left))) => {
-            if level(operator) < level(q) {
-                Ok(Some(Operator::Between(q, left)))
-            } else {
-                waiting.push(Item::Operator(Operator::Between(q, left)))?;
-                Ok(None)
+    match item {
+        Item::Operator(Operator::Before(_)) => true,
+        Item::Operator(Operator::Behind(_, _)) => true,
+        Item::Operator(Operator::Between(q, _)) => level(operator) < level(*q),
+        Item::Bracket(_) => false,
+        Item::PathOperator(_, _) => false,
+    }
+}
+
+/// Takes the latest item away if it is applied before a binary operator comes to wait.
+fn pop_tighter(waiting: &mut Vec<Item>, operator: Infix) -> Option<Operator>
+    ensures found { Loosens operator result (stack waiting.old.items) (stack waiting.new.items) }
+    ensures shorter { IfSome result (λ tighter. vec_len waiting.new < vec_len waiting.old) }
+{
+    match waiting.last() {
+        Some(latest) => {
+            if !is_tighter(latest, operator) {
+                return None;
             }
         }
+        None => return None,
+    }
+    match waiting.pop() {
+        Some(Item::Operator(tighter)) => Some(tighter),
+        _ => unreachable!(),
     }
 }
 
@@ -200,39 +205,40 @@ fn extend(
     }
 {
     let mut made = operand;
-    while let Some(tighter) = pop_tighter(waiting, operator)? {
+    while let Some(tighter) = pop_tighter(waiting, operator) {
         made = apply(alloc, tighter, made)?;
     }
     waiting.push(Item::Operator(Operator::Between(operator, made)))?;
     Ok(())
 }
 
-/// Takes the latest item away if it is applied before an operator between paths comes to wait.
-fn pop_tighter_path(
-    waiting: &mut Vec<Item>,
-    operator: PathInfix,
-) -> Result<Option<(PathInfix, Path)>, StepFault>
-    ensures found { UnlessMemory result (λ found. LoosensPath operator found (stack waiting.old.items) (stack waiting.new.items)) }
-    ensures shorter { UnlessMemory result (λ found. IfSome found (λ tighter. vec_len waiting.new < vec_len waiting.old)) }
+/// Whether an item is applied before an operator between paths comes to wait.
+fn is_tighter_path(item: &Item, operator: PathInfix) -> bool
+    ensures { result ≡ path_tighter_than operator (item_of item.now) }
 {
-    match waiting.pop() {
-        None => Ok(None),
-        Some(Item::Bracket(b)) => {
-            waiting.push(Item::Bracket(b))?;
-            Ok(None)
-        }
-        Some(Item::Operator(o)) => {
-            waiting.push(Item::Operator(o))?;
-            Ok(None)
-        }
-        Some(Item::PathOperator(q, left)) => {
-            if path_level(operator) < path_level(q) {
-                Ok(Some((q, left)))
-            } else {
-                waiting.push(Item::PathOperator(q, left))?;
-                Ok(None)
+    match item {
+        Item::PathOperator(q, _) => path_level(operator) < path_level(*q),
+        Item::Bracket(_) => false,
+        Item::Operator(_) => false,
+    }
+}
+
+/// Takes the latest item away if it is applied before an operator between paths comes to wait.
+fn pop_tighter_path(waiting: &mut Vec<Item>, operator: PathInfix) -> Option<(PathInfix, Path)>
+    ensures found { LoosensPath operator result (stack waiting.old.items) (stack waiting.new.items) }
+    ensures shorter { IfSome result (λ tighter. vec_len waiting.new < vec_len waiting.old) }
+{
+    match waiting.last() {
+        Some(latest) => {
+            if !is_tighter_path(latest, operator) {
+                return None;
             }
         }
+        None => return None,
+    }
+    match waiting.pop() {
+        Some(Item::PathOperator(tighter, left)) => Some((tighter, left)),
+        _ => unreachable!(),
     }
 }
 
@@ -249,7 +255,7 @@ fn extend_path(
     }
 {
     let mut made = path;
-    while let Some((tighter, left)) = pop_tighter_path(waiting, operator)? {
+    while let Some((tighter, left)) = pop_tighter_path(waiting, operator) {
         made = joined_paths(alloc, tighter, left, made)?;
     }
     waiting.push(Item::PathOperator(operator, made))?;
