@@ -128,10 +128,7 @@ fn read_one(
     ensures closed { names.new.closed ≡ names.old.closed }
     ensures kept { OnErr result (names.new.names ≡ names.old.names) }
 {
-    let token = match token_at(names, text, found, count) {
-        Ok(token) => token,
-        Err(fault) => return Err(fault),
-    };
+    let token = token_at(names, text, found, count)?;
     let next = match step(alloc, waiting, latest, token) {
         Ok(next) => next,
         Err(StepFault::Refused) => return Err(FormFault::Unexpected {
@@ -144,10 +141,8 @@ fn read_one(
             at: place(text, found),
         });
     }
-    match add_name(names, text, found) {
-        Ok(()) => Ok(next),
-        Err(fault) => Err(fault),
-    }
+    add_name(names, text, found)?;
+    Ok(next)
 }
 
 /// The formula that was read, at the end of the text.
@@ -186,10 +181,7 @@ fn read_text(
     let mut in_word = false;
     let mut count = 0;
     while let Some(found) = next(dialect, text, from, in_word) {
-        latest = match read_one(alloc, names, &mut waiting, latest, text, &found, count) {
-            Ok(after) => after,
-            Err(fault) => return Err(fault),
-        };
+        latest = read_one(alloc, names, &mut waiting, latest, text, &found, count)?;
         from = found.to;
         in_word = found.is_word;
         count += 1;
