@@ -8,7 +8,7 @@ use Rattle.form_reader.specs.Waiting.{most_waiting}
 use Rattle.form_reader.specs.Admitted.{Scan, start, admits, after, waits_after, all_admitted, is_shallow, IsAdmitted}
 use Rattle.form_reader.specs.Machine.{State, Due, step, run, waits, run_within}
 use Rattle.form_reader.specs.Reading.{IsReadAs}
-use Rattle.form_reader.proofs.Complete.{run-IsText, one_tree}
+use Rattle.form_reader.proofs.Complete.{run-IsText}
 use Rattle.form_reader.proofs.Sound.{IsText-run}
 use Rattle.form_reader.proofs.Shapes.{Shaped, step-Shaped}
 use Rattle.form_reader.proofs.Scans.{length-kinds, scan_of, step-scan, step-admits, finish-may_end}

@@ -25,10 +25,8 @@ pub fn print_form(alloc: Global, form: &Form, names: &Names) -> Result<Text, Mem
     ensures reads { IfOk result (λ text. ReadsBack names.now text (tree form.now)) }
 
     // So does any table in which each of the names has the same number.
-    ensures reads_elsewhere {
-        IfOk result (λ text. (others : Table) → AreNumberedIn names.now.names others.names
-            → ReadsBack others text (tree form.now))
-    }
+    ensures reads_elsewhere { IfOk result (λ text. (others : Table) → AreNumberedIn names.now.names others.names
+        → ReadsBack others text (tree form.now)) }
 {
     // Reading back rests on the names being different, which this call says.
     let _ = names.len();
@@ -118,10 +116,8 @@ fn print_modal(
 ) -> Result<(), Memory>
     requires path { IsProperProgram (length names.now.names) (program path.now) }
     requires form { IsProper (length names.now.names) (tree form.now) }
-    ensures {
-        OnOk result (text.new
-            ≡ text.old ++ printed_modal names.now.names opening.now (program path.now) closing.now (tree form.now))
-    }
+    ensures { OnOk result (text.new
+        ≡ text.old ++ printed_modal names.now.names opening.now (program path.now) closing.now (tree form.now)) }
 {
     text.push(opening)?;
     print_path(text, path, names)?;

@@ -119,12 +119,10 @@ fn read_one(
     count: usize,
 ) -> Result<Latest, FormFault>
     requires { IsWithin found.now text.now }
-    ensures done {
-        Turns result names.old.closed
-            (stage_at names.old.names count waiting.old.items latest)
-            (lexeme_at found.now text.now)
-            (λ next. stage_at names.new.names (count + 1) waiting.new.items next)
-    }
+    ensures done { Turns result names.old.closed
+        (stage_at names.old.names count waiting.old.items latest)
+        (lexeme_at found.now text.now)
+        (λ next. stage_at names.new.names (count + 1) waiting.new.items next) }
     ensures closed { names.new.closed ≡ names.old.closed }
     ensures kept { OnErr result (names.new.names ≡ names.old.names) }
 {
@@ -207,21 +205,15 @@ pub fn read_form(
     ensures place { IfErr result (λ e. Blames e (refusal dialect names.old text.now ≡ Some e)) }
 
     // A text that no rule refuses is that of a formula, and the other way round.
-    ensures complete {
-        (refusal dialect names.old text.now ≡ None) ↔ ((f : Formula) × IsFormulaOf dialect names.old text.now f)
-    }
+    ensures complete { (refusal dialect names.old text.now ≡ None) ↔ ((f : Formula) × IsFormulaOf dialect names.old text.now f) }
 
     // The tokens have a tree exactly where the table admits them.
-    ensures table {
-        let tokens = tokens_of dialect names.old text.now in
-        ((f : Formula) × IsText tokens f) ↔ IsAdmitted tokens
-    }
+    ensures table { let tokens = tokens_of dialect names.old text.now in
+        ((f : Formula) × IsText tokens f) ↔ IsAdmitted tokens }
 
     // They have at most one.
-    ensures one_tree {
-        let tokens = tokens_of dialect names.old text.now in
-        (f g : Formula) → IsText tokens f → IsText tokens g → f ≡ g
-    }
+    ensures one_tree { let tokens = tokens_of dialect names.old text.now in
+        (f g : Formula) → IsText tokens f → IsText tokens g → f ≡ g }
 
     // New names go last, in order of first use.
     ensures names { OnOk result (names.new.names ≡ names_of dialect names.old text.now) }

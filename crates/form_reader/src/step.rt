@@ -136,10 +136,8 @@ fn closed_path(
 
 /// Makes a closed path wait, as one prefix operator.
 fn wait_behind(waiting: &mut Vec<Item>, modality: Modality, path: Path) -> Result<Latest, StepFault>
-    ensures {
-        UnlessMemory result (λ next. state_of waiting.new.items next
-            ≡ machine.Due (machine.Behind modality (program path) ∷ stack waiting.old.items))
-    }
+    ensures { UnlessMemory result (λ next. state_of waiting.new.items next
+        ≡ machine.Due (machine.Behind modality (program path) ∷ stack waiting.old.items)) }
 {
     waiting.push(Item::Operator(Operator::Behind(modality, path)))?;
     Ok(Latest::FormulaDue)
@@ -199,10 +197,8 @@ fn extend(
     operator: Infix,
     operand: Operand,
 ) -> Result<(), StepFault>
-    ensures {
-        UnlessMemory result (λ _. stack waiting.new.items
-            ≡ machine.extended operator (stack waiting.old.items) (tree operand.form))
-    }
+    ensures { UnlessMemory result (λ _. stack waiting.new.items
+        ≡ machine.extended operator (stack waiting.old.items) (tree operand.form)) }
 {
     let mut made = operand;
     while let Some(tighter) = pop_tighter(waiting, operator) {
@@ -249,10 +245,8 @@ fn extend_path(
     operator: PathInfix,
     path: Path,
 ) -> Result<(), StepFault>
-    ensures {
-        UnlessMemory result (λ _. stack waiting.new.items
-            ≡ machine.path_extended operator (stack waiting.old.items) (program path))
-    }
+    ensures { UnlessMemory result (λ _. stack waiting.new.items
+        ≡ machine.path_extended operator (stack waiting.old.items) (program path)) }
 {
     let mut made = path;
     while let Some((tighter, left)) = pop_tighter_path(waiting, operator) {
