@@ -1,8 +1,8 @@
 #!/usr/bin/env bash
 # Runs commands of the program with each of their allocations refused in turn, first that one alone, then with all after it.
-# A run must end with status 8, its message and no output; where already the words or the output's buffer find no memory there
-# is no message. With one refusal alone it may also do without what was refused, and then end just as it does with none. Where `monitor` ends with status 8 it must have left all its input, since it takes memory
-# before the first event only.
+# A run must end with status 8, its message and no output. With one refusal alone it may also do without what was refused,
+# and then end just as it does with none. Where `monitor` ends with status 8 it must have left all its input, since it takes
+# memory before the first event only.
 #   PROGRAM=FILE   runs this program in place of crates/bes/out/bes
 # (`rt try --fail-alloc N` refuses one allocation too, but builds the program anew for each N.)
 set -u
@@ -25,9 +25,6 @@ if ! command -v "$compiler" >/dev/null; then
 fi
 "$compiler" "${flags[@]}" -shared -fPIC -nostdlib -fno-builtin -o "$scratch/refuse.so" scripts/refuse.c || exit 2
 
-# The allocations for three words and the output's buffer.
-EARLY=9
-
 input=$'request a\n\ngrant b\na\n'
 printf %s "$input" >"$scratch/input"
 passed=0
@@ -44,13 +41,8 @@ run() {
 }
 
 is_told() {
-  [ "$status" -eq 8 ] && [ ! -s "$scratch/out" ] && { [ "$(<"$scratch/err")" = 'bes: out of memory' ] || is_early; } &&
+  [ "$status" -eq 8 ] && [ ! -s "$scratch/out" ] && [ "$(<"$scratch/err")" = 'bes: out of memory' ] &&
     { [ "${words[0]}" != monitor ] || [ "$rest" = "$input" ]; }
-}
-
-# No memory before the run began: the command has not looked at its words, and tells nothing.
-is_early() {
-  [ ! -s "$scratch/err" ] && [ "$n" -le "$EARLY" ] && [ "$rest" = "$input" ]
 }
 
 is_as_ever() {

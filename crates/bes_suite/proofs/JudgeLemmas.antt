@@ -45,6 +45,7 @@ module _ (dialect : Dialect) (text : List ℕ) (before after : World) where
   Judges ending = Performs needs_input (λ files rest. JudgeAnswers dialect text rest) ((f : Formula) × IsFormula dialect text f) before after ending
 
   module _ (f : Formula) (is : IsFormula dialect text f) where
+    -- the input gives no answer
     pub input-ends : (ending : Ending) → ((rest : List ℕ) → before.left ≡ Some rest → GivesAnswer (names_of dialect text) f rest (Err ending) after.left)
         → HasTraceCause {T = Bool} before.reads after.reads (Err ending) → after.puts ≡ before.puts → after.failed ≡ before.failed → after.held ≡ before.held → ¬ IsBeforeInput ending → Judges ending
     input-ends Positive gives cause puts failed held late = absurd cause
@@ -60,6 +61,7 @@ module _ (dialect : Dialect) (text : List ℕ) (before after : World) where
       whole = tt;
     }
 
+    -- the answer was put, or the sink failed
     pub answered : (answer : Bool) (result : Ending) → ((rest : List ℕ) → before.left ≡ Some rest → GivesAnswer (names_of dialect text) f rest (Ok answer) after.left)
         → after.reads ≡ before.reads → after.failed ≡ before.failed → PutsAll (answer_reply answer).output (answer_reply answer).ending before.held before.puts after.held after.puts result
         → Judges result

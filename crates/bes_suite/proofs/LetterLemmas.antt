@@ -19,7 +19,7 @@ use Rattle.bes_io.proofs.LinesLemmas.{some-remain}
 module _ (names : List (List ℕ)) (n : ℕ) (old new : Reader) (bytes : List ℕ) (left : Option (List ℕ)) where
   found : (text : List ℕ) (letter : ℕ) → FoundLine old bytes new left → Finds old bytes (Ok Line) new left → length new.held < 4097
       → new.line ≡ Some text → IsEventOf names Ignore text letter → FoundLetter names old bytes letter new left
-  found text letter f taken near is event =
+  found text letter f taken few is event =
       let same : text ≡ f.text = cc in
       let first : f.text ≡ first_line bytes = let t = taken.1 in cc (t.line, f.line) in
       record {
@@ -31,7 +31,7 @@ module _ (names : List (List ℕ)) (n : ℕ) (old new : Reader) (bytes : List �
         last = f.last;
         taken = taken;
         first = first;
-        near = near;
+        few = few;
       }
 
   refused : (text : List ℕ) (fault : EventFault) → FoundLine old bytes new left → new.line ≡ Some text → event_fault names Ignore text ≡ Some fault
@@ -56,15 +56,18 @@ module _ (names : List (List ℕ)) (n : ℕ) (old new : Reader) (left later : Op
   taken_at : (bytes : List ℕ) → input old left ≡ Some bytes → (q : Result Found LineFault) → r ≡ q → Finds old bytes q new later
   taken_at bytes told q e = subst (λ q. Finds old bytes q new later) e (finds bytes told)
 
+  -- a line that is an event gives its letter
   pub letter-found : r ≡ Ok Line → (r ≡ Ok Line → length new.held < 4097) → (text : List ℕ) (letter : ℕ) → new.line ≡ Some text → IsEventOf names Ignore text letter
       → (bytes : List ℕ) → input old left ≡ Some bytes → NextLetter names n old bytes (Ok (Some letter)) new later
-  letter-found e near text letter is event bytes told =
-      found names n old new bytes later text letter (at bytes told (Ok Line) e) (taken_at bytes told (Ok Line) e) (near e) is event
+  letter-found e few text letter is event bytes told =
+      found names n old new bytes later text letter (at bytes told (Ok Line) e) (taken_at bytes told (Ok Line) e) (few e) is event
 
+  -- a line that is no event is refused
   pub letter-refused : r ≡ Ok Line → (text : List ℕ) (fault : EventFault) → new.line ≡ Some text → event_fault names Ignore text ≡ Some fault
       → (bytes : List ℕ) → input old left ≡ Some bytes → NextLetter names n old bytes (Err (Refused (Event n fault))) new later
   letter-refused e text fault is event bytes told = refused names n old new bytes later text fault (at bytes told (Ok Line) e) is event
 
+  -- no line remains
   pub end-found : r ≡ Ok End → (bytes : List ℕ) → input old left ≡ Some bytes → NextLetter names n old bytes (Ok None) new later
   end-found e bytes told = let f = at bytes told (Ok End) e in record { rest = f.1; ended = f.0; why = f.2 }
 
@@ -74,6 +77,7 @@ module _ (names : List (List ℕ)) (n : ℕ) (old new : Reader) (left later : Op
   stops none LineTooLong e bytes told = let f = at bytes told (Err LineTooLong) e in record { lines = []; stop = at_fault LineTooLong; remain = f.0; first = refl }
   stops none InputTooLong e bytes told = let f = at bytes told (Err InputTooLong) e in record { lines = []; stop = at_fault InputTooLong; remain = f.0; first = refl }
 
+  -- where reading lines fails there is no letter
   pub letter-stopped : (r ≡ Err ReadFault → ¬ Contains new.held 10) → (fault : LineFault) → r ≡ Err fault → (ending : Ending) → ending ≡ stopped n fault
       → (bytes : List ℕ) → input old left ≡ Some bytes → NextLetter names n old bytes (Err ending) new later
   letter-stopped none fault e ending is bytes told = subst (λ q. NextLetter names n old bytes (Err q) new later) (sym is) (stops none fault e bytes told)

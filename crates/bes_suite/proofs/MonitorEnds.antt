@@ -76,28 +76,29 @@ end-monitor names f word n (Some v) latest = ended (verdict_of v) latest.0 lates
 module _ (s : Diagrams) (names : List (List ℕ)) (f : Formula) (rest : List ℕ) (before after : World) (reader new : Reader) (left : Option (List ℕ)) (m : Configuration) (n : ℕ)
     (last : Option Verdict) (held : Option (List ℕ)) (w : Monitored s names f rest before.held reader left m n last held) where
   -- what is given with no further line, over these bytes
-  with-no_more : (bytes : List ℕ) → HasLines most_monitored bytes (w.lines ++ []) at_end → IsMonitored names f bytes (record { output = w.shown; ending = ending_after last })
+  with-no_more : (bytes : List ℕ) → HasLines most_monitored bytes (w.lines ++ []) at_end → IsMonitored names f bytes (record { output = w.written; ending = ending_after last })
   with-no_more bytes has = record {
     lines = w.lines ++ [];
     stop = at_end;
     has = has;
-    gives = subst (λ o. MonitorsFrom names f [] 1 (w.lines ++ []) at_end o (ending_after last)) (append-nil w.shown)
+    gives = subst (λ o. MonitorsFrom names f [] 1 (w.lines ++ []) at_end o (ending_after last)) (append-nil w.written)
         (w.gives [] at_end [] (ending_after last) (end-monitor names f w.word n last w.latest));
   }
 
   -- the lines so far, as an input of their own
-  so-far : reader.phase ≡ Reading → IsMonitored names f w.front (record { output = w.shown; ending = ending_after last })
+  so-far : reader.phase ≡ Reading → IsMonitored names f w.front (record { output = w.written; ending = ending_after last })
   so-far reading = with-no_more w.front (subst (λ bs. HasLines most_monitored bs (w.lines ++ []) at_end) (append-nil w.front) (w.cut reading [] [] at_end (no_bytes refl)))
 
   -- the input ends
   pub ends-well : FoundEnd reader w.bytes new after.left → after.held ≡ held → Gives (IsMonitored names f rest) before after (ending_after last)
   ends-well end same = record {
-    reply = record { output = w.shown; ending = ending_after last };
+    reply = record { output = w.written; ending = ending_after last };
     asked = with-no_more rest (w.others [] at_end end.ended);
     added = same ∙ w.put;
     ends = refl;
   }
 
+  -- and nothing of it is left
   pub ends-at : FoundEnd reader w.bytes new after.left → after.left ≡ Some []
   ends-at end =
       let nil : w.bytes ≡ [] = elim end.why [ inl closed ↦ w.closed closed | inr nil ↦ nil ] in
@@ -106,12 +107,12 @@ module _ (s : Diagrams) (names : List (List ℕ)) (f : Formula) (rest : List ℕ
   -- the next line is refused, or the lines stop
   pub ends-refused : (r : Refusal) → IsRefusedAt names n reader w.bytes r → after.held ≡ held → Gives (IsMonitored names f rest) before after (Refused r)
   ends-refused r at same = record {
-    reply = record { output = w.shown; ending = Refused r };
+    reply = record { output = w.written; ending = Refused r };
     asked = record {
       lines = w.lines ++ at.lines;
       stop = at.stop;
       has = w.others at.lines at.stop at.remain;
-      gives = subst (λ o. MonitorsFrom names f [] 1 (w.lines ++ at.lines) at.stop o (Refused r)) (append-nil w.shown)
+      gives = subst (λ o. MonitorsFrom names f [] 1 (w.lines ++ at.lines) at.stop o (Refused r)) (append-nil w.written)
           (w.gives at.lines at.stop [] (Refused r) (next-monitor names f w.word n at.lines at.stop r at.first));
     };
     added = same ∙ w.put;
@@ -125,14 +126,15 @@ module _ (s : Diagrams) (names : List (List ℕ)) (f : Formula) (rest : List ℕ
         let r = some-remain reader w.bytes in
         let has : HasLines most_monitored rest (w.lines ++ r.lines) r.stop = w.others r.lines r.stop r.remain in
         let x = some-monitor s m names f ready props w.claim r.lines w.word n r.stop (not-at_fault most_monitored rest (w.lines ++ r.lines) r.stop has) w.over in
-        let k = front-after w.shown 0 [] x.output in
+        let k = front-after w.written 0 [] x.output in
         inr (
-          record { output = w.shown ++ x.output; ending = x.ending },
+          record { output = w.written ++ x.output; ending = x.ending },
           record { lines = w.lines ++ r.lines; stop = r.stop; has = has; gives = w.gives r.lines r.stop x.output x.ending x.monitors },
           k.0,
-          same ∙ w.put ∙ ap (append_known before.held) (sym (k.1 ∙ append-nil w.shown)),
+          same ∙ w.put ∙ ap (append_known before.held) (sym (k.1 ∙ append-nil w.written)),
         )
 
+    -- and what is due for the whole lines that were taken was put
     pub stops-reading : FailedAt reader w.bytes new after.left → after.held ≡ held → StopsReading (IsMonitored names f) rest before after
     stops-reading failed same =
         let z = known-split new.held after.left w.bytes failed.stays.1.rest in
@@ -145,7 +147,7 @@ module _ (s : Diagrams) (names : List (List ℕ)) (f : Formula) (rest : List ℕ
           left = z.1;
           whole = w.whole reading;
           no_more = failed.no_line;
-          reply = record { output = w.shown; ending = ending_after last };
+          reply = record { output = w.written; ending = ending_after last };
           due = so-far reading;
           admitted = admitted-after last;
           added = same ∙ w.put;
@@ -156,17 +158,18 @@ module _ (s : Diagrams) (names : List (List ℕ)) (f : Formula) (rest : List ℕ
       here : IsVerdict (length names) (traces_of names f) (w.word ++ letter ∷ []) (verdict_of v)
       here = verdict-now s names f rest before.held reader new left after.left m n last held w letter found props v verdict
 
-      added-part : after.held ≡ append_known before.held (w.shown ++ take k (verdict_line (verdict_of v)))
-      added-part = put ∙ ap (λ h. append_known h (take k (verdict_line (verdict_of v)))) w.put ∙ append-append before.held w.shown (take k (verdict_line (verdict_of v)))
+      added-part : after.held ≡ append_known before.held (w.written ++ take k (verdict_line (verdict_of v)))
+      added-part = put ∙ ap (λ h. append_known h (take k (verdict_line (verdict_of v)))) w.put ∙ append-append before.held w.written (take k (verdict_line (verdict_of v)))
 
       -- the sink fails at the line of the verdict
       pub fails-writing : AddsPrefix (IsMonitored names f rest) before after
       fails-writing =
           let line = verdict_line (verdict_of v) in
           let x = gives-line s names f rest before.held reader new left after.left m n last held w letter found props v verdict ready in
-          let q = front-after w.shown k line x.more in
-          inr (record { output = w.shown ++ (line ++ x.more); ending = x.ending }, x.given, q.0, added-part ∙ ap (append_known before.held) (sym q.1))
+          let q = front-after w.written k line x.more in
+          inr (record { output = w.written ++ (line ++ x.more); ending = x.ending }, x.given, q.0, added-part ∙ ap (append_known before.held) (sym q.1))
 
+      -- and it failed at this one line
       pub stops-writing : StopsWriting (IsMonitored names f) rest before after
       stops-writing =
           let line = verdict_line (verdict_of v) in
@@ -178,25 +181,25 @@ module _ (s : Diagrams) (names : List (List ℕ)) (f : Formula) (rest : List ℕ
           record {
             earlier = w.front;
             needed = t.needed;
-            ahead = new.held;
+            further = new.held;
             later = z.0;
             split = w.split ∙ ap (λ bs. w.front ++ bs) (t.split ∙ ap (λ bs. t.needed ++ bs) tail);
             left = z.1;
             whole = w.whole reading;
             one = subst (λ bs. IsOneLine t.needed bs) tail t.one;
-            near = found.near;
-            shown = record { output = w.shown; ending = ending_after last };
+            few = found.few;
+            reply = record { output = w.written; ending = ending_after last };
             due = so-far reading;
             admitted = admitted-after last;
             line = line;
             some = verdict-some v;
-            next = record { output = w.shown ++ line; ending = ending_of (verdict_of v) };
+            next = record { output = w.written ++ line; ending = ending_of (verdict_of v) };
             due_next = record {
               lines = w.lines ++ found.text ∷ [];
               stop = at_end;
               has = w.cut reading t.needed (found.text ∷ []) at_end
                   (subst (λ l. HasLines (allowed reader) t.needed (l ∷ []) at_end) (sym found.first) t.alone);
-              gives = subst (λ o. MonitorsFrom names f [] 1 (w.lines ++ found.text ∷ []) at_end (w.shown ++ o) (ending_of (verdict_of v))) (append-nil line)
+              gives = subst (λ o. MonitorsFrom names f [] 1 (w.lines ++ found.text ∷ []) at_end (w.written ++ o) (ending_of (verdict_of v))) (append-nil line)
                   (w.gives (found.text ∷ []) at_end (line ++ []) (ending_of (verdict_of v))
                   (event (verdict_of v) found.event here (ended (verdict_of v) (push-some w.word letter) here)));
             };

@@ -29,15 +29,15 @@ streams-more some all rest before after more s = record {
   puts = λ rose. let x = s.puts rose in record {
     earlier = x.earlier;
     needed = x.needed;
-    ahead = x.ahead;
+    further = x.further;
     later = x.later;
     split = x.split;
     left = x.left;
     whole = x.whole;
     one = x.one;
-    near = x.near;
-    shown = x.shown;
-    due = more x.earlier x.shown x.due;
+    few = x.few;
+    reply = x.reply;
+    due = more x.earlier x.reply x.due;
     admitted = x.admitted;
     line = x.line;
     some = x.some;
@@ -111,6 +111,7 @@ module _ (some all : Contents → List ℕ → Reply → Type 0) (must may : Typ
   }
 
 module _ (replies : Contents → List ℕ → Reply → Type 0) (before after : World) where
+  -- what a command over the input does that ends so
   abbrev pub Does : Ending → Type 0
   Does ending = Performs needs_input replies (Unit {0}) before after ending
 

@@ -131,21 +131,21 @@ pub record Monitored (s : Diagrams) (names : List (List ℕ)) (f : Formula) (res
   pub bytes : List ℕ
   pub word : Word
   pub lines : List (List ℕ)
-  pub shown : List ℕ
+  pub written : List ℕ
   pub input_left : input reader left ≡ Some bytes
   pub split : rest ≡ front ++ bytes
   pub over : IsOver s.props word
   pub leads : LeadsTo s m word
   pub claim : IsClaimOf s m.automaton (traces_of names f)
   pub latest : IsLatest names f word last
-  pub put : held ≡ append_known start shown
+  pub put : held ≡ append_known start written
   pub others : (later : List (List ℕ)) (stop : Stop) → Remains reader bytes later stop → HasLines most_monitored rest (lines ++ later) stop
   pub closed : reader.phase ≡ Closed → bytes ≡ []
   pub whole : reader.phase ≡ Reading → AreWholeLines front
   pub cut : reader.phase ≡ Reading → (more : List ℕ) (later : List (List ℕ)) (stop : Stop) → HasLines (allowed reader) more later stop
       → HasLines most_monitored (front ++ more) (lines ++ later) stop
   pub gives : (later : List (List ℕ)) (stop : Stop) (output : List ℕ) (ending : Ending) → MonitorsFrom names f word n later stop output ending
-      → MonitorsFrom names f [] 1 (lines ++ later) stop (shown ++ output) ending
+      → MonitorsFrom names f [] 1 (lines ++ later) stop (written ++ output) ending
 
 -- nothing is monitored yet
 pub monitored-start : (s : Diagrams) (names : List (List ℕ)) (f : Formula) (rest : List ℕ) (start : Option (List ℕ)) (reader : Reader) (left : Option (List ℕ)) (m : Configuration)
@@ -156,7 +156,7 @@ monitored-start s names f rest start reader left m is opened told =
       bytes = rest;
       word = [];
       lines = [];
-      shown = [];
+      written = [];
       input_left = ap (prepend_known []) told;
       split = refl;
       over = over-nil s.props;
@@ -197,11 +197,11 @@ within-some [] [] zs some e = some refl
 within-some [] (y ∷ ys) zs some e = cc
 within-some (x ∷ xs) ys zs some e = cc
 
--- all that an input gives, with this line behind what was shown
-pub record GivesLine (names : List (List ℕ)) (f : Formula) (rest shown line : List ℕ) : Type 0 where
+-- all that an input gives, with this line behind what was written
+pub record GivesLine (names : List (List ℕ)) (f : Formula) (rest written line : List ℕ) : Type 0 where
   pub more : List ℕ
   pub ending : Ending
-  pub given : IsMonitored names f rest (record { output = shown ++ (line ++ more); ending = ending })
+  pub given : IsMonitored names f rest (record { output = written ++ (line ++ more); ending = ending })
 
 module _ (s : Diagrams) (names : List (List ℕ)) (f : Formula) (rest : List ℕ) (start : Option (List ℕ)) (reader new : Reader) (left later : Option (List ℕ)) (m : Configuration) (n : ℕ)
     (last : Option Verdict) (held : Option (List ℕ)) (w : Monitored s names f rest start reader left m n last held)
@@ -226,14 +226,14 @@ module _ (s : Diagrams) (names : List (List ℕ)) (f : Formula) (rest : List ℕ
         bytes = found.later;
         word = w.word ++ letter ∷ [];
         lines = w.lines ++ found.text ∷ [];
-        shown = w.shown ++ verdict_line (verdict_of v);
+        written = w.written ++ verdict_line (verdict_of v);
         input_left = found.rest;
         split = w.split ∙ ap (λ bs. w.front ++ bs) (t.split ∙ ap (λ bs. t.needed ++ bs) (sym after)) ∙ sym (append_assoc w.front t.needed found.later);
         over = over-push s.props w.word letter w.over small;
         leads = moved w.word w.over w.leads;
         claim = subst (λ a. IsClaimOf s a (traces_of names f)) (sym same) w.claim;
         latest = (push-some w.word letter, verdict-now);
-        put = is ∙ ap (λ h. append_known h (verdict_line (verdict_of v))) w.put ∙ append-append start w.shown (verdict_line (verdict_of v));
+        put = is ∙ ap (λ h. append_known h (verdict_line (verdict_of v))) w.put ∙ append-append start w.written (verdict_line (verdict_of v));
         others = λ ls stop r. subst (λ l. HasLines most_monitored rest l stop) (sym (append_assoc w.lines (found.text ∷ []) ls)) (w.others (found.text ∷ ls) stop (found.others ls stop r));
         closed = found.last;
         whole = λ going. whole-more w.front t.needed (t.whole going);
@@ -243,14 +243,14 @@ module _ (s : Diagrams) (names : List (List ℕ)) (f : Formula) (rest : List ℕ
             (w.cut reading (t.needed ++ more) (found.text ∷ ls) stop
             (subst (λ l. HasLines (allowed reader) (t.needed ++ more) (l ∷ ls) stop) (sym text) (t.cut going more ls stop has))));
         gives = λ ls stop output ending x.
-            subst (λ l. MonitorsFrom names f [] 1 l stop ((w.shown ++ verdict_line (verdict_of v)) ++ output) ending) (sym (append_assoc w.lines (found.text ∷ []) ls))
-            (subst (λ o. MonitorsFrom names f [] 1 (w.lines ++ found.text ∷ ls) stop o ending) (sym (append_assoc w.shown (verdict_line (verdict_of v)) output))
+            subst (λ l. MonitorsFrom names f [] 1 l stop ((w.written ++ verdict_line (verdict_of v)) ++ output) ending) (sym (append_assoc w.lines (found.text ∷ []) ls))
+            (subst (λ o. MonitorsFrom names f [] 1 (w.lines ++ found.text ∷ ls) stop o ending) (sym (append_assoc w.written (verdict_line (verdict_of v)) output))
             (w.gives (found.text ∷ ls) stop (verdict_line (verdict_of v) ++ output) ending (event (verdict_of v) found.event verdict-now x)));
       }
 
   module _ (ready : IsReady s m) where
     -- the input gives the line of this verdict
-    pub gives-line : GivesLine names f rest w.shown (verdict_line (verdict_of v))
+    pub gives-line : GivesLine names f rest w.written (verdict_line (verdict_of v))
     gives-line =
         let r = some-remain new found.later in
         let has : HasLines most_monitored rest (w.lines ++ found.text ∷ r.lines) r.stop = w.others (found.text ∷ r.lines) r.stop (found.others r.lines r.stop r.remain) in
@@ -269,4 +269,4 @@ module _ (s : Diagrams) (names : List (List ℕ)) (f : Formula) (rest : List ℕ
 
     -- so an output is due
     pub line-due : NoOutputIsDue (IsMonitored names f rest) → ⊥
-    line-due none = let x = gives-line in within-some w.shown (verdict_line (verdict_of v)) x.more (verdict-some v) (none (record { output = w.shown ++ (verdict_line (verdict_of v) ++ x.more); ending = x.ending }) x.given)
+    line-due none = let x = gives-line in within-some w.written (verdict_line (verdict_of v)) x.more (verdict-some v) (none (record { output = w.written ++ (verdict_line (verdict_of v) ++ x.more); ending = x.ending }) x.given)

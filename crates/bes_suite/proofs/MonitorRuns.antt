@@ -55,6 +55,7 @@ module _ (s : Diagrams) (names : List (List ℕ)) (f : Formula) (before after : 
     (told : (rest : List ℕ) → before.left ≡ Some rest → Monitored s names f rest before.held reader left m n last held)
     (tells : (bytes : List ℕ) → input reader left ≡ Some bytes → NextLetter names n reader bytes r new after.left)
     (same : after.failed ≡ before.failed) where
+  -- what a run of `monitor` does that ends so
   abbrev pub Runs : Ending → Type 0
   Runs ending = Does (λ files bytes. IsMonitored names f bytes) before after ending
 
@@ -82,6 +83,7 @@ module _ (s : Diagrams) (names : List (List ℕ)) (f : Formula) (before after : 
         failed (λ files bytes. IsMonitored names f bytes) before after
         (λ files rest t. fails-reading s names f rest before after reader new left m n last held (told rest t) ready props kept) (inl cause) same
 
+    -- and where the source failed, what is due for its whole lines was put
     pub streams-stops : (ending : Ending) → r ≡ Err ending → HasTraceCause {T = List ℕ} before.reads after.reads (Err ending) → (rest : List ℕ) → before.left ≡ Some rest
         → Streams (IsMonitored names f) rest before after
     streams-stops Positive e cause rest t = absurd cause
@@ -104,6 +106,7 @@ module _ (s : Diagrams) (names : List (List ℕ)) (f : Formula) (before after : 
         failed (λ files bytes. IsMonitored names f bytes) before after
         (λ files rest t. fails-writing s names f rest before after reader new left m n last held (told rest t) ready props letter (found-letter rest t) v verdict put.0 put.1) (inr rose) same
 
+    -- and it failed at one line
     pub streams-unheard : after.reads ≡ before.reads → (rest : List ℕ) → before.left ≡ Some rest → Streams (IsMonitored names f) rest before after
     streams-unheard reads rest t =
         streams-put (IsMonitored names f) rest before after reads

@@ -64,6 +64,7 @@ module _ (needs : Needs) (replies : Reply → Type 0) (may_read : Type 0) (befor
     message = t.text ∙ ap (λ e. append_known err (message_of e)) c.ends;
   }
 
+  -- each status but 7 and 8 is that of what was asked for
   pub answers : (ending : Ending) → Adds replies before after ending → Finishes ending err was told now number → IsAnswered replies before after err told number
   answers Positive c (inl t) n7 n8 = gave Positive c t
   answers Positive c (inr u) n7 n8 = absurd (u.some refl)
@@ -79,6 +80,7 @@ module _ (needs : Needs) (replies : Reply → Type 0) (may_read : Type 0) (befor
   refused-7 : (r : Refusal) → Told (Refused r) err was told now number → number ≡ 7 → ⊥
   refused-7 r t e = let s = refusal-status r in let u : number ≡ refusal_status r = t.status in omega (arith, s.1)
 
+  -- status 7 has its cause, and of the place for messages only where a message was asked for
   pub message-cause : (ending : Ending) → Adds replies before after ending → Counts needs may_read before after ending → Finishes ending err was told now number
       → HasMessageCause needs may_read replies before after was now number
   message-cause Positive a c (inl t) e = cc
@@ -94,6 +96,7 @@ module _ (needs : Needs) (replies : Reply → Type 0) (may_read : Type 0) (befor
   broken : (ending : Ending) → Gives replies before after ending → AddsPrefix replies before after
   broken ending c = inr (c.reply, c.asked, length c.reply.output, c.added ∙ ap (append_known before.held) (sym (take-length c.reply.output)))
 
+  -- at status 7 a prefix of an output was added
   pub partly : (ending : Ending) → Adds replies before after ending → Finishes ending err was told now number → Partial replies before after number
   partly Positive c f e = broken Positive c
   partly Negative c f e = broken Negative c

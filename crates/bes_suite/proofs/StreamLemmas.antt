@@ -98,6 +98,7 @@ pub record LineTaken (old new : Reader) (bytes : List ℕ) : Type 0 where
   pub cut : new.phase ≡ Reading → (more : List ℕ) (lines : List (List ℕ)) (stop : Stop) → HasLines (allowed new) more lines stop
       → HasLines (allowed old) (needed ++ more) (first_line bytes ∷ lines) stop
 
+-- a reader that finds a line has not stopped
 pub going : (p : Phase) (most : ℕ) (bytes : List ℕ) → Ok Line ≡ answer_of p most bytes → p ≡ Reading
 going Reading most bytes e = refl
 going Closed most bytes e = cc
@@ -156,6 +157,7 @@ module _ (old new : Reader) (bytes : List ℕ) (left : Option (List ℕ)) (taken
         cut = λ going. cc;
       }
 
+  -- a line that was found ends with an LF or with the input
   pub line-taken : LineTaken old new bytes
   line-taken = elim (cases_lt (text_len bytes) (length bytes)) [ inl h ↦ taken-lf h | inr h ↦ taken-last h ]
 

@@ -2,7 +2,7 @@
 use Rattle.std.proofs.Common.{◌≡◌, refl, [], ◌∷◌, List, ℕ}
 use Rattle.std.specs.Prelude.{codes}
 use Rattle.forms.specs.Tree.{Formula, Atom, Not, Implies, Iff, Until, Diamond, Test, Seq, Step}
-use Rattle.bes_suite.specs.Showing.{shown}
+use Rattle.bes_suite.specs.Showing.{form_lines}
 use Rattle.bes_suite.specs.AutomatonText.{name_list, word_line}
 
 abbrev names : List (List ℕ)
@@ -14,16 +14,16 @@ a = Atom 0
 abbrev b : Formula
 b = Atom 1
 
-iff_negates_its_first_operand : shown names (Not (Iff a b)) ≡ codes "form !(a <-> b)\nnnf (!a <-> b)\n"
+iff_negates_its_first_operand : form_lines names (Not (Iff a b)) ≡ codes "form !(a <-> b)\nnnf (!a <-> b)\n"
 iff_negates_its_first_operand = refl
 
-until_becomes_release : shown names (Not (Until a b)) ≡ codes "form !(a U b)\nnnf (!a R !b)\n"
+until_becomes_release : form_lines names (Not (Until a b)) ≡ codes "form !(a U b)\nnnf (!a R !b)\n"
 until_becomes_release = refl
 
-implication_becomes_or : shown names (Not (Implies a b)) ≡ codes "form !(a -> b)\nnnf (a & !b)\n"
+implication_becomes_or : form_lines names (Not (Implies a b)) ≡ codes "form !(a -> b)\nnnf (a & !b)\n"
 implication_becomes_or = refl
 
-tests_are_turned_and_steps_are_not : shown names (Not (Diamond (Seq (Test (Implies a b)) (Step (Implies a b))) b))
+tests_are_turned_and_steps_are_not : form_lines names (Not (Diamond (Seq (Test (Implies a b)) (Step (Implies a b))) b))
     ≡ codes "form !<({(a -> b)}? ; {(a -> b)})>b\nnnf [({(!a | b)}? ; {(a -> b)})]!b\n"
 tests_are_turned_and_steps_are_not = refl
 

@@ -34,7 +34,7 @@ cubes-one (suc n) v h k e xs ys (inr (f, lo, hi, low, high, is)) (inr (g, los, h
 -- a function on letters has one list of cubes
 letter-cubes-one : (p : ℕ) (f g : ℕ → ℕ) → ((a : ℕ) → a < 2 ^ p → f a ≡ g a) → (xs ys : List Cube) → AreLetterCubes p f xs → AreLetterCubes p g ys → xs ≡ ys
 letter-cubes-one p f g e xs ys x y =
-    x.shown ∙ ap (map printed_cube) (cubes-one p 0 x.value y.value same x.plain y.plain x.are y.are) ∙ sym y.shown
+    x.cubes_printed ∙ ap (map printed_cube) (cubes-one p 0 x.value y.value same x.plain y.plain x.are y.are) ∙ sym y.cubes_printed
   where
     same : AreEqual x.value y.value
     same a =

@@ -51,11 +51,13 @@ first-refusal : (names lines : List (List ℕ)) (n : ℕ) (stop : Stop) (r : Ref
 first-refusal names [] n stop r e = e
 first-refusal names (text ∷ lines) n stop r e = line-first n (event_fault names Ignore text) (trace_refusal names (n + 1) lines stop) r e
 
+-- where no byte is held or left, none is left
 pub nothing-left : (held : List ℕ) (left : Option (List ℕ)) → prepend_known held left ≡ Some [] → left ≡ Some []
 nothing-left held None e = cc
 nothing-left [] (Some xs) e = e
 nothing-left (b ∷ held) (Some xs) e = cc
 
+-- before the first call no letter has come
 pub start : (names : List (List ℕ)) (rest : List ℕ) (reader : Reader) (left : Option (List ℕ)) (word : List ℕ) → reader ≡ fresh most_input → word ≡ [] → left ≡ Some rest
     → SoFar names rest reader left word
 start names rest reader left word r w told =
@@ -80,6 +82,7 @@ module _ (names : List (List ℕ)) (rest : List ℕ) (reader new : Reader) (left
     last = f.last;
   }
 
+  -- one more letter was found
   pub more-letters : (n letter : ℕ) (r : Result (Option ℕ) Ending) → ((bytes : List ℕ) → input reader left ≡ Some bytes → NextLetter names n reader bytes r new later)
       → r ≡ Ok (Some letter) → SoFar names rest reader left word → SoFar names rest new later (word ++ letter ∷ [])
   more-letters n letter r next e s = more letter s (subst (λ q. NextLetter names n reader s.bytes q new later) e (next s.bytes s.whole))
@@ -91,6 +94,7 @@ module _ (names : List (List ℕ)) (rest : List ℕ) (reader new : Reader) (left
         (s.lines, subst (λ l. HasLines most_input rest l at_end) (append-nil s.lines) (s.others [] at_end f.ended), s.events),
       )
 
+  -- the end was found, so these are all the letters
   pub all-letters : (n : ℕ) (r : Result (Option ℕ) Ending) → ((bytes : List ℕ) → input reader left ≡ Some bytes → NextLetter names n reader bytes r new later)
       → r ≡ Ok None → SoFar names rest reader left word → GivesTrace names rest (Ok word) later
   all-letters n r next e s = ended s (subst (λ q. NextLetter names n reader s.bytes q new later) e (next s.bytes s.whole))
@@ -109,6 +113,7 @@ module _ (names : List (List ℕ)) (rest : List ℕ) (reader new : Reader) (left
             ∙ first-refusal names f.lines n f.stop r f.first,
       )
 
+  -- the next line was refused, or the lines stop
   pub letters-stopped : (n : ℕ) (ending : Ending) (r : Result (Option ℕ) Ending) → n ≡ length word + 1
       → ((bytes : List ℕ) → input reader left ≡ Some bytes → NextLetter names n reader bytes r new later)
       → r ≡ Err ending → SoFar names rest reader left word → GivesTrace names rest (Err ending) later

@@ -95,7 +95,7 @@ lists_moves s t text fits l = record {
     over = (fits at h).letters;
     plain = (l.rows at h).0;
     are = (l.rows at h).1;
-    shown = (l.rows at h).2;
+    cubes_printed = (l.rows at h).2;
   };
   lines = l.lines ∙ same_lines s t l.cubes (size_of t);
 }

@@ -97,7 +97,7 @@ one-showing (showing.formula_refused {fault = x} a) (showing.formula_refused {fa
 one-showing {dialect} {text} (showing.formula_refused a) (showing.formula_shown g b) = absurd (formula-or-fault dialect text _ _ b a)
 one-showing {dialect} {text} (showing.formula_shown f a) (showing.formula_refused b) = absurd (formula-or-fault dialect text _ _ a b)
 one-showing {dialect} {text} (showing.formula_shown f a) (showing.formula_shown g b) =
-    ap (λ z. record { output = showing.shown (names_of dialect text) z; ending = Positive }) (one-formula dialect text f g a b)
+    ap (λ z. record { output = showing.form_lines (names_of dialect text) z; ending = Positive }) (one-formula dialect text f g a b)
 
 -- and translated in one way
 one-translation : {dialect : Dialect} {text : List ℕ} {c d : Reply} → TranslateAnswers dialect text c → TranslateAnswers dialect text d → c ≡ d

@@ -63,7 +63,7 @@ pub record AreLetterCubes (p : ℕ) (f : ℕ → ℕ) (cubes : List Cube) : Type
   pub over : (a b : Assignment) → ((v : ℕ) → v < p → a v ≡ b v) → value a ≡ value b
   pub plain : List Cube
   pub are : AreCubesOf p 0 value plain
-  pub shown : cubes ≡ map printed_cube plain
+  pub cubes_printed : cubes ≡ map printed_cube plain
 
 -- for each of the first so many locations its line and those of its cubes
 abbrev pub location_lines : Moves → (ℕ → List Cube) → ℕ → List ℕ

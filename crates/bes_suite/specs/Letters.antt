@@ -31,7 +31,7 @@ pub record FoundLetter (names : List (List ℕ)) (old : Reader) (bytes : List �
   pub last : new.phase ≡ Closed → later ≡ []
   pub taken : Finds old bytes (Ok Line) new left
   pub first : text ≡ first_line bytes
-  pub near : length new.held < 4097
+  pub few : length new.held < 4097
 
 -- a call found the end of these bytes
 pub record FoundEnd (old : Reader) (bytes : List ℕ) (new : Reader) (left : Option (List ℕ)) : Type 0 where

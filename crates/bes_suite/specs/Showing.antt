@@ -11,12 +11,12 @@ use Rattle.bes_suite.specs.Replies.{Reply, refusing}
 use Rattle.bes_suite.specs.Formulas.{IsFormula, IsRefused, names_of}
 
 -- the formula as it was read, and its negation normal form
-abbrev pub shown : List (List ℕ) → Formula → List ℕ
-shown names f = codes "form " ++ printed names f ++ codes "\nnnf " ++ printed names (normal f) ++ codes "\n"
+abbrev pub form_lines : List (List ℕ) → Formula → List ℕ
+form_lines names f = codes "form " ++ printed names f ++ codes "\nnnf " ++ printed names (normal f) ++ codes "\n"
 
 -- the formula is refused, or its two lines are shown
 pub data FormsAnswers : Dialect → List ℕ → Reply → Type 0 where
   formula_refused : {dialect : Dialect} {text : List ℕ} {fault : FormFault} →
       IsRefused dialect text fault → FormsAnswers dialect text (refusing (refusal.Formula fault))
   formula_shown : {dialect : Dialect} {text : List ℕ} (f : Formula) →
-      IsFormula dialect text f → FormsAnswers dialect text (record { output = shown (names_of dialect text) f; ending = Positive })
+      IsFormula dialect text f → FormsAnswers dialect text (record { output = form_lines (names_of dialect text) f; ending = Positive })

@@ -54,22 +54,22 @@ pub record StopsReading (replies : List ℕ → Reply → Type 0) (rest : List �
 pub record StopsWriting (replies : List ℕ → Reply → Type 0) (rest : List ℕ) (before after : World) : Type 0 where
   pub earlier : List ℕ
   pub needed : List ℕ
-  pub ahead : List ℕ
+  pub further : List ℕ
   pub later : List ℕ
-  pub split : rest ≡ earlier ++ (needed ++ (ahead ++ later))
+  pub split : rest ≡ earlier ++ (needed ++ (further ++ later))
   pub left : after.left ≡ Some later
   pub whole : AreWholeLines earlier
-  pub one : IsOneLine needed (ahead ++ later)
-  pub near : length ahead < 4097
-  pub shown : Reply
-  pub due : replies earlier shown
-  pub admitted : ¬ IsLineRefused shown.ending
+  pub one : IsOneLine needed (further ++ later)
+  pub few : length further < 4097
+  pub reply : Reply
+  pub due : replies earlier reply
+  pub admitted : ¬ IsLineRefused reply.ending
   pub line : List ℕ
   pub some : line ≢ []
   pub next : Reply
   pub due_next : replies (earlier ++ needed) next
-  pub adds_line : next.output ≡ shown.output ++ line
-  pub added : (n : ℕ) × (after.held ≡ append_known before.held (shown.output ++ take n line))
+  pub adds_line : next.output ≡ reply.output ++ line
+  pub added : (n : ℕ) × (after.held ≡ append_known before.held (reply.output ++ take n line))
 
 -- what stands where the count of the input rose, or that of the output
 pub record Streams (replies : List ℕ → Reply → Type 0) (rest : List ℕ) (before after : World) : Type 0 where

@@ -103,16 +103,17 @@ pub fn run<F: Files, S: Source, O: Sink, E: Sink>(
         result.number }
 
     // Where no output is due, the output isn't asked. Whether or not the outside tells, it isn't asked before want of
-    // memory, nor, by a command that doesn't write as it reads, where the input failed.
+    // memory, nor, by a command that doesn't write as it reads, where the input's count of faults rose.
     ensures silent { (contents : Contents) (rest : List ℕ) →
         Tells (needs_of words.now) (MayRead words.now) (world (F.contents files.old) (F.failed files.old) (S.left input.old) (S.faults input.old) (O.held out.old) (O.faults out.old)) contents rest →
         NoOutputIsDue (AnswersWith words.now contents rest) → out.new ≡ out.old }
     ensures nothing { result.number ≡ 8 → out.new ≡ out.old }
     ensures unwritten { is_streaming (command_of words.now) ≡ false → S.faults input.old < S.faults input.new → out.new ≡ out.old }
 
-    // Where the input fails, a command that writes as it reads has put what is due for the whole lines that were
-    // taken. Where the output fails, it failed at one line: what is due for the lines before the one that it needs was
-    // put, and fewer than 4,097 bytes were taken past that one. Once such a command reads, it takes no memory.
+    // Where the input's count of faults rose, a command that writes as it reads has put what is due for the whole lines
+    // that were taken. Where the output's count rose, it failed at one line: what is due for the lines before the one
+    // that it needs was put, and fewer than 4,097 bytes were taken past that one. Once such a command reads, it takes
+    // no memory.
     ensures streams { (contents : Contents) (rest : List ℕ) →
         Tells (needs_of words.now) (MayRead words.now) (world (F.contents files.old) (F.failed files.old) (S.left input.old) (S.faults input.old) (O.held out.old) (O.faults out.old)) contents rest →
         IfNeeded (is_streaming (command_of words.now)) (Streams (AnswersWith words.now contents) rest

@@ -2,7 +2,7 @@
 ghost use Rattle.std.specs.Prelude.{◌≡◌, ℕ, List, length, Option, IfOk};
 ghost use Rattle.forms.specs.Tree.{tree};
 ghost use Rattle.forms.specs.Proper.{IsProper};
-ghost use Rattle.bes_suite.specs.Showing.{FormsAnswers, shown};
+ghost use Rattle.bes_suite.specs.Showing.{FormsAnswers, form_lines};
 ghost use Rattle.bes_suite.specs.Answers.{Contents};
 ghost use Rattle.bes_suite.specs.Worlds.{world, needs_nothing, NoOutputIsDue, Performs};
 
@@ -17,7 +17,7 @@ use std::alloc::Global;
 /// The two lines of a formula.
 fn shown_text(alloc: Global, form: &Form, names: &Names) -> Result<Text, Memory>
     requires { IsProper (length names.now.names) (tree form.now) }
-    ensures { IfOk result (λ text. text ≡ shown names.now.names (tree form.now)) }
+    ensures { IfOk result (λ text. text ≡ form_lines names.now.names (tree form.now)) }
 {
     let normal = nnf(alloc, form)?;
     let read = print_form(alloc, form, names)?;

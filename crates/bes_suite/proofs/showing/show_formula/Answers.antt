@@ -3,18 +3,18 @@ use Rattle.forms.specs.Tree.{Formula, tree}
 use Rattle.form_reader.specs.declared.dialect.Dialect.{Dialect}
 use Rattle.bes_suite.specs.declared.endings.Ending.TheVariants.{Positive}
 use Rattle.bes_suite.specs.Formulas.{IsFormula}
-use Rattle.bes_suite.specs.Showing.{FormsAnswers, formula_refused, formula_shown, shown}
+use Rattle.bes_suite.specs.Showing.{FormsAnswers, formula_refused, formula_shown, form_lines}
 use Rattle.bes_suite.specs.Worlds.{needs_nothing, NoOutputIsDue}
 use Rattle.bes_suite.proofs.Performing.{formula-ends, output-put}
 use Rattle.bes_suite.proofs.showing.show_formula.Goals as goal
 
 -- the two lines of a formula are not empty
-shown-some : (names : List (List ℕ)) (f : Formula) → shown names f ≡ [] → ⊥
-shown-some names f e = cc
+form_lines-some : (names : List (List ℕ)) (f : Formula) → form_lines names f ≡ [] → ⊥
+form_lines-some names f e = cc
 
 -- where there is a formula, they are due
-shown-due : (dialect : Dialect) (text : List ℕ) (f : Formula) → IsFormula dialect text f → NoOutputIsDue (FormsAnswers dialect text) → ⊥
-shown-due dialect text f is none = shown-some _ f (none _ (formula_shown f is))
+formula-due : (dialect : Dialect) (text : List ℕ) (f : Formula) → IsFormula dialect text f → NoOutputIsDue (FormsAnswers dialect text) → ⊥
+formula-due dialect text f is none = form_lines-some _ f (none _ (formula_shown f is))
 
 pub returns-in-Err-clause-performs : goal.returns-in-Err-clause-performs
 returns-in-Err-clause-performs g c contents failed left reads =
@@ -26,10 +26,10 @@ pub returns-in-Ok-shown_text-clause-performs : goal.returns-in-Ok-shown_text-cla
 returns-in-Ok-shown_text-clause-performs g c contents failed left reads =
     output-put (λ files rest. FormsAnswers c.args.dialect c.args.text.now) _ _ c.bytes.result.now
     (λ files rest. subst (λ text. FormsAnswers c.args.dialect c.args.text.now (record { output = text; ending = Positive }))
-    (sym (c.bytes.ensures ∙ c.in-Ok-shown_text.ensures ∙ ap (λ names. shown names (tree c.in-Ok.read.0)) c.in-Ok.ensures.names))
+    (sym (c.bytes.ensures ∙ c.in-Ok-shown_text.ensures ∙ ap (λ names. form_lines names (tree c.in-Ok.read.0)) c.in-Ok.ensures.names))
     (formula_shown (tree c.in-Ok.read.0) c.in-Ok.ensures.formula))
     refl refl c.put_all.result c.put_all.ensures
 
 pub returns-in-Ok-shown_text-clause-silent : goal.returns-in-Ok-shown_text-clause-silent
 returns-in-Ok-shown_text-clause-silent g c none =
-    absurd (shown-due c.args.dialect c.args.text.now (tree c.in-Ok.read.0) c.in-Ok.ensures.formula none)
+    absurd (formula-due c.args.dialect c.args.text.now (tree c.in-Ok.read.0) c.in-Ok.ensures.formula none)
