@@ -12,12 +12,15 @@ pub record IsNoCoarser (new old : ℕ → ℕ) (size : ℕ) : Type 0 where
   pub count : blocks_among old size ≤ blocks_among new size
   pub same : blocks_among old size ≡ blocks_among new size → (i : ℕ) → i < size → old i ≡ new i
 
+-- a location in the next new block makes one block more
 pub among-new : (b : ℕ → ℕ) (n : ℕ) → b n ≡ blocks_among b n → blocks_among b (suc n) ≡ suc (blocks_among b n)
 among-new b n e = rw (eq-eqb (b n) (blocks_among b n) e) refl
 
+-- a location in a block that was there makes none
 pub among-old : (b : ℕ → ℕ) (n : ℕ) → b n < blocks_among b n → blocks_among b (suc n) ≡ blocks_among b n
 among-old b n h = rw (ne_eqb (b n) (blocks_among b n) (λ e. omega (arith, h, e))) refl
 
+-- blocks in order are so among fewer locations
 pub in_order-less : (b : ℕ → ℕ) (n : ℕ) → IsInOrder b (suc n) → IsInOrder b n
 in_order-less b n o i h = o i (omega (arith, h))
 

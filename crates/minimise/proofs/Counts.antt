@@ -19,6 +19,7 @@ pub record Named (p : ℕ) (m : Moves) (at : ℕ) : Type 0 where
   pub over : IsOver p word
   pub leads : at < m.size → location_after m m.first word ≡ at
 
+-- some word leads to each location of a least automaton
 pub named : (p : ℕ) (m : Moves) → IsLeast p m → (at : ℕ) → Named p m at
 named p m l at =
     elim (cases_lt at m.size) [
@@ -26,7 +27,8 @@ named p m l at =
       | inr h ↦ record { word = []; over = λ k d e. absurd (omega (arith, e)); leads = λ e. absurd (omega (arith, h, e)) }
     ]
 
-same_bit : (x y : ℕ) → x < 2 → y < 2 → (x == 1) ≡ (y == 1) → x ≡ y
+-- numbers below 2 are equal where both are 1 or neither is
+pub same_bit : (x y : ℕ) → x < 2 → y < 2 → (x == 1) ≡ (y == 1) → x ≡ y
 same_bit x y h k e = grind (arith, h, k, e)
 
 -- what the claim says after a word is what the location's mark says
@@ -90,6 +92,7 @@ words_of-cover p m f l d u o =
       λ w q. claim-append p m f d u w o q at refl ∙ sym (claim-append p m f d a.word w a.over q at (a.leads h)),
     )
 
+-- a least automaton has as many locations as its claim has classes of equivalent words
 pub size_is_class_count : SizeIsClassCount
 size_is_class_count p m f l d =
     record {

@@ -1,6 +1,6 @@
 -- Rows and blocks that rounds of division go on from.
 use Rattle.std.proofs.Common.{◌≡◌, ◌<◌, ◌≤◌, ◌+◌, ◌++◌, ◌⊎◌, ℕ, suc, List, [], ◌∷◌, Option, Some, None, refl, sym, ◌∙◌, ap, arith, inl, inr, length, length-append, unwrap_or, if◌then◌else◌, map}
-use Rattle.std.specs.Prelude.{slice_index, slice_index_or}
+use Rattle.std.specs.Prelude.{slice_index}
 use Rattle.std.specs.HashMap.{HashMap, get}
 use Rattle.std.proofs.lemmas.Bool.{cases_Bool}
 use Rattle.std.proofs.lemmas.List.{get_or_append_left, get_or_at, length-map, map-append}
@@ -24,13 +24,6 @@ use Rattle.minimise.proofs.RefineLemmas.{round_lasts}
 use Rattle.minimise.proofs.RoundLemmas.{round_divides, one_block_divides}
 use Rattle.minimise.proofs.RowLemmas.{GoesByRows, rows_make_round}
 
--- reading a list with one more item
-pub item_before : {A : Type 0} → (xs : List A) (x d : A) (i : ℕ) → i < length xs → slice_index_or (xs ++ x ∷ []) i d ≡ slice_index_or xs i d
-item_before xs x d i h = get_or_append_left xs (x ∷ []) d i h
-
-pub item_last : {A : Type 0} → (xs : List A) (x d : A) → slice_index_or (xs ++ x ∷ []) (length xs) d ≡ x
-item_last xs x d = get_or_at xs x [] d (length xs) refl
-
 -- what is made of f by a list of blocks means so
 pub transforms_means : (s n : Diagrams) (blocks : List ℕ) (f i : Id) → Transforms s n (IsTableItem blocks) f i → Means n i (item_value s blocks f)
 transforms_means s n blocks f i t = record { live = t.live; value = t.value }
@@ -46,9 +39,9 @@ pub rows_more : (s n after : Diagrams) (t : Table) (blocks : List ℕ) (rows : L
 rows_more s n after t blocks rows count row id keeps grows f within k r m = record {
   size = length-append rows (id ∷ []) ∙ ap (λ z. z + 1) k.size;
   row = λ i l. elim (place_cases i count l) [
-    | inl h ↦ rw (item_before rows id (record { 0 = 0 }) i (rw (k.size) h)) (means_lasts n after grows (id_at rows i) _ (k.row i h))
+    | inl h ↦ rw (get_or_append_left rows (id ∷ []) (record { 0 = 0 }) i (rw (k.size) h)) (means_lasts n after grows (id_at rows i) _ (k.row i h))
     | inr h ↦
-        let at : id_at (rows ++ id ∷ []) i ≡ id = rw (h, ← k.size) (item_last rows id (record { 0 = 0 })) in
+        let at : id_at (rows ++ id ∷ []) i ≡ id = get_or_at rows id [] (record { 0 = 0 }) i (k.size ∙ sym h) in
         rw (at) (record {
           live = m.live;
           value = λ a.
@@ -93,6 +86,7 @@ pub record IsDividing {S : Type 0} (t : Table) (rows : List Id) (firsts : HashMa
   pub known : (at : ℕ) → at < count → get same_key firsts (key_of t rows at) ≡ Some (slice_index blocks at)
   pub right : (k : Key) (x : ℕ) → get same_key firsts k ≡ Some x → (x < count) × (key_of t rows x ≡ k)
 
+-- before the first location nothing is divided
 pub dividing_none : {S : Type 0} → (t : Table) (rows : List Id) (firsts : HashMap Key ℕ S) (blocks : List ℕ) → blocks ≡ []
     → ((k : Key) → get same_key firsts k ≡ None) → IsDividing t rows firsts blocks 0
 dividing_none t rows firsts blocks e none = record {
@@ -119,6 +113,7 @@ first_found t rows old blocks at x d e =
           record { low = omega (arith, q, r.0); key = ap (key_of t rows) q ∙ r.1 }
     ]
 
+-- one location more is divided
 pub dividing_more : {S : Type 0} → (t : Table) (rows : List Id) (old new : HashMap Key ℕ S) (blocks : List ℕ) (at x : ℕ) → IsDividing t rows old blocks at
     → x ≡ unwrap_or (get same_key old (key_of t rows at)) at
     → ((other : Key) → get same_key new other ≡ (if same_key (key_of t rows at) other then Some x else get same_key old other))
@@ -163,6 +158,7 @@ dividing_more t rows old new blocks at x d e up = record {
       | inr s ↦ up (key_of t rows i) ∙ ap (λ b. if b then Some x else get same_key old (key_of t rows i)) s ∙ d.known i h
     ]
 
+-- once every location is divided, the blocks are a division by marks and rows
 pub dividing_all : {S : Type 0} → (t : Table) (rows : List Id) (firsts : HashMap Key ℕ S) (blocks : List ℕ) (count : ℕ) → count ≡ size_of t
     → IsDividing t rows firsts blocks count → IsDivision t rows blocks
 dividing_all t rows firsts blocks count all d = record {

@@ -36,6 +36,7 @@ at_most p f n k a b =
         let s = a.differ i j [] h l in
         s.differ (x.alike (omega (arith, h, l)) s.word s.over ∙ ap (λ z. f (get_or b.words z [] ++ s.word)) e ∙ sym (y.alike l s.word s.over))
 
+-- any two class counts of a claim are equal
 pub class_count_is_one : ClassCountIsOne
 class_count_is_one p f n k a b =
     let x = at_most p f n k a b in

@@ -1,9 +1,10 @@
 -- Dividing keys into blocks.
-use Rattle.std.proofs.Common.{◌≡◌, ◌<◌, ◌≤◌, ◌+◌, ◌⊎◌, ◌++◌, ℕ, zero, suc, List, [], ◌∷◌, Bool, true, Some, refl, sym, ◌∙◌, ap, subst, arith, inl, inr, length, length-append, true≢false, add-one, get_or, if◌then◌else◌}
+use Rattle.std.proofs.Common.{◌≡◌, ◌<◌, ◌≤◌, ◌+◌, ◌⊎◌, ◌++◌, ℕ, zero, suc, List, [], ◌∷◌, Bool, true, Some, refl, sym, ◌∙◌, ap, subst, arith, inl, inr, length, length-append, true≢false, add-one, if◌then◌else◌}
 use Rattle.std.specs.Prelude.{slice_get, slice_index}
 use Rattle.std.specs.List.{list_any}
 use Rattle.std.proofs.lemmas.List.{get_or_append_left, get_or_at}
-use Rattle.std.proofs.lemmas.Bool.{cases_Bool, cases_lt, and_parts, eqb-true, or_left, or_right}
+use Rattle.std.proofs.lemmas.Option.{slice_get_within}
+use Rattle.std.proofs.lemmas.Bool.{cases_Bool, and_parts, eqb-true, or_left, or_right}
 use Rattle.indexmap.specs.IndexSet.{insert_key}
 use Rattle.minimise.specs.declared.blocks.Key.{Key}
 use Rattle.minimise.specs.Blocks.{blocks_among, IsInOrder, same_key, IsPartition}
@@ -18,6 +19,7 @@ key_true x y e =
     let row : x.row.0 ≡ y.row.0 = eqb-true x.row.0 y.row.0 p.1 in
     λ d. record { mark = mark d; row = record { 0 = row d } }
 
+-- a key is the same as itself
 pub key_same : (x : Key) → same_key x x ≡ true
 key_same x = grind arith
 
@@ -27,22 +29,16 @@ any-at p [] j k e h = absurd (cc)
 any-at p (x ∷ ks) zero k e h = let q : x ≡ k = cc in or_left _ _ (ap p q ∙ h)
 any-at p (x ∷ ks) (suc j) k e h = or_right (p x) _ (any-at p ks j k e h)
 
+-- a key at the end leaves the others where they are
 pub get-push_before : (ks : List Key) (x : Key) (i : ℕ) → i < length ks → slice_get (ks ++ x ∷ []) i ≡ slice_get ks i
 get-push_before [] x i h = absurd (omega (arith, h))
 get-push_before (y ∷ ks) x zero h = refl
 get-push_before (y ∷ ks) x (suc i) h = get-push_before ks x i (omega (arith, h))
 
+-- a key at the end comes after all others
 pub get-push_at : (ks : List Key) (x : Key) → slice_get (ks ++ x ∷ []) (length ks) ≡ Some x
 get-push_at [] x = refl
 get-push_at (y ∷ ks) x = get-push_at ks x
-
-get-past : (ks : List Key) (i : ℕ) (k : Key) → length ks ≤ i → slice_get ks i ≡ Some k → ⊥
-get-past [] i k h e = cc
-get-past (y ∷ ks) zero k h e = omega (arith, h)
-get-past (y ∷ ks) (suc i) k h e = get-past ks i k (omega (arith, h)) e
-
-pub get-within : (ks : List Key) (i : ℕ) (k : Key) → slice_get ks i ≡ Some k → i < length ks
-get-within ks i k e = elim (cases_lt i (length ks)) [ inl h ↦ h | inr h ↦ absurd (get-past ks i k h e) ]
 
 -- what an insertion leaves: the key where it was, or at the end
 IsInserted : List Key → List Key → Key → ℕ → Type 0
@@ -58,7 +54,7 @@ inserted old new key i e at =
           let more : new ≡ old ++ key ∷ [] = e ∙ ap (λ b. if b then old else old ++ key ∷ []) f in
           let absent : (j : ℕ) → slice_get old j ≡ Some key → ⊥ = λ j q. true≢false (sym (any-at (same_key key) old j key q (key_same key)) ∙ f) in
           let here : slice_get (old ++ key ∷ []) i ≡ Some key = ap (λ ks. slice_get ks i) (sym more) ∙ at in
-          let l = get-within (old ++ key ∷ []) i key here in
+          let l = slice_get_within (old ++ key ∷ []) i key here in
           inr (
             more,
             elim (place_cases i (length old) (omega (arith, l, length-append old (key ∷ [])))) [
@@ -116,8 +112,9 @@ get-some [] i h = absurd (omega (arith, h))
 get-some (y ∷ ks) zero h = (y, refl)
 get-some (y ∷ ks) (suc i) h = get-some ks i (omega (arith, h))
 
-push_lasts : (ks : List Key) (x : Key) (j : ℕ) (k : Key) → slice_get ks j ≡ Some k → slice_get (ks ++ x ∷ []) j ≡ Some k
-push_lasts ks x j k e = get-push_before ks x j (get-within ks j k e) ∙ e
+-- a key that was read is read with one more at the end
+pub push_lasts : (ks : List Key) (x : Key) (j : ℕ) (k : Key) → slice_get ks j ≡ Some k → slice_get (ks ++ x ∷ []) j ≡ Some k
+push_lasts ks x j k e = get-push_before ks x j (slice_get_within ks j k e) ∙ e
 
 push_once : (ks : List Key) (x : Key) → ((a b : ℕ) (k : Key) → slice_get ks a ≡ Some k → slice_get ks b ≡ Some k → a ≡ b)
     → ((j : ℕ) → slice_get ks j ≡ Some x → ⊥) → (a b : ℕ) (k : Key) → slice_get (ks ++ x ∷ []) a ≡ Some k → slice_get (ks ++ x ∷ []) b ≡ Some k → a ≡ b
@@ -134,7 +131,7 @@ push_once ks x o n a b k e q =
     ]
   where
     split : (i : ℕ) → slice_get (ks ++ x ∷ []) i ≡ Some k → (i < length ks) ⊎ (i ≡ length ks)
-    split i z = let w = get-within (ks ++ x ∷ []) i k z in place_cases i (length ks) (omega (arith, w, length-append ks (x ∷ [])))
+    split i z = let w = slice_get_within (ks ++ x ∷ []) i k z in place_cases i (length ks) (omega (arith, w, length-append ks (x ∷ [])))
 
     last : (i : ℕ) → i ≡ length ks → slice_get (ks ++ x ∷ []) i ≡ Some k → Some x ≡ Some k
     last i h z = sym (ap (slice_get (ks ++ x ∷ [])) h ∙ get-push_at ks x) ∙ z
@@ -146,7 +143,7 @@ unfolding IsInserted
 partition_more keys bs old new count key b p h at e here =
     elim (inserted old new key b e here) [
       | inl q ↦
-          let l : b < blocks_among (slice_index bs) (length bs) = let w = get-within old b key q.1 in rw (p.size, p.number) w in
+          let l : b < blocks_among (slice_index bs) (length bs) = let w = slice_get_within old b key q.1 in rw (p.size, p.number) w in
           record {
             size = length-append bs (b ∷ []) ∙ ap (λ z. z + 1) p.size;
             key = keys_more keys bs old new b key count p.size p.key (λ j k z. ap (λ ks. slice_get ks j) q.0 ∙ z) at here some;
@@ -180,7 +177,7 @@ pub partition_none : (keys : List Key) → IsPartition keys [] [] 0
 partition_none keys = record {
   size = refl;
   key = λ i h. absurd (omega (arith, h));
-  once = λ a b k e q. absurd (get-past [] a k (omega arith) e);
+  once = λ a b k e q. absurd (omega (arith, slice_get_within [] a k e));
   order = λ i h. absurd (omega (arith, h));
   number = refl;
 }
@@ -200,9 +197,3 @@ inserted_few ks key = elim (cases_Bool (list_any (same_key key) ks)) [
   | inl t ↦ rw (t) (omega arith)
   | inr f ↦ rw (f) (omega (arith, length-append ks (key ∷ [])))
 ]
-
--- reading a key
-pub get-read : (ks : List Key) (i : ℕ) (d : Key) → i < length ks → slice_get ks i ≡ Some (get_or ks i d)
-get-read [] i d h = absurd (omega (arith, h))
-get-read (k ∷ ks) zero d h = refl
-get-read (k ∷ ks) (suc i) d h = get-read ks i d (omega (arith, h))

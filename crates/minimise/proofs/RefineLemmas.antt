@@ -1,6 +1,7 @@
 -- Rounds of refinement over a growing store, and what the last one gives.
-use Rattle.std.proofs.Common.{◌≡◌, ◌<◌, ◌≤◌, ◌+◌, ◌++◌, ℕ, zero, suc, List, [], ◌∷◌, Option, Some, None, refl, sym, ◌∙◌, ap, subst, arith, inl, inr, length, length-append, map, replicate, Result, Ok, Err}
+use Rattle.std.proofs.Common.{◌≡◌, ◌<◌, ◌≤◌, ◌+◌, ◌++◌, ℕ, zero, suc, List, [], ◌∷◌, Option, Some, None, sym, ◌∙◌, ap, subst, arith, inl, inr, length, length-append, map, Result, Ok, Err}
 use Rattle.std.specs.Prelude.{slice_get, slice_index, slice_index_or, IfOk}
+use Rattle.std.proofs.lemmas.List.{length-map}
 use Rattle.diagrams.specs.declared.top.Id.{Id}
 use Rattle.diagrams.specs.Eval.{Diagrams, eval, letter_truth}
 use Rattle.diagrams.specs.Live.{Keeps}
@@ -11,7 +12,7 @@ use Rattle.minimise.specs.declared.blocks.Key.{Key}
 use Rattle.minimise.specs.Blocks.{IsPartition}
 use Rattle.minimise.specs.Rounds.{IsDivided, IsRelabelled, AreKeys, IsRefined, IsRefining}
 use Rattle.minimise.proofs.BlockLemmas.{within, member, finer_has_more}
-use Rattle.minimise.proofs.PartitionLemmas.{get-push_before, get-push_at, get-within}
+use Rattle.minimise.proofs.PartitionLemmas.{get-push_at, push_lasts}
 use Rattle.minimise.proofs.RoundLemmas.{IsRound, round_divides, round_is_finer}
 use Rattle.minimise.proofs.RowLemmas.{AreRelabelled, GoesByRows, rows_make_round}
 use Rattle.minimise.proofs.QuotientLemmas.{IsQuotient, divided_is_least, quotient_marks}
@@ -34,6 +35,7 @@ mark_in (Some k) = k.mark
 row-lasts : (s n : Diagrams) (t : Table) → Keeps s n → Fits s t → (at : ℕ) → at < size_of t → (a : ℕ → _) → eval n (row_of t at) a ≡ eval s (row_of t at) a
 row-lasts s n t k f at h a = eval-lasts s n k.was k.now k.extends (row_of t at) (f at h).live a
 
+-- a round over a later store is one over the earlier store
 pub round_lasts : (s n : Diagrams) (t : Table) (old new : ℕ → ℕ) → Keeps s n → Fits s t → IsRound n.props (moves_of n t) old new → IsRound s.props (moves_of s t) old new
 round_lasts s n t old new k f r = record {
   mark = r.mark;
@@ -165,14 +167,10 @@ row-map [] i k e = absurd (cc)
 row-map (x ∷ ks) zero k e = ap id_in e
 row-map (x ∷ ks) (suc i) k e = row-map ks i k e
 
-pub length-rows : (ks : List Key) → length (map (λ x. x.row) ks) ≡ length ks
-length-rows [] = refl
-length-rows (x ∷ ks) = ap suc (length-rows ks)
-
 module _ (s n : Diagrams) (t q : Table) (blocks : List ℕ) (kinds : List Key) (f : Fits s t) (k : Keeps s n) (r : IsRefined s n t blocks kinds)
     (first : q.first ≡ slice_index blocks t.first) (marks : q.marks ≡ map (λ x. x.mark) kinds) (rows : q.rows ≡ map (λ x. x.row) kinds) where
   pub size-is : size_of q ≡ length kinds
-  size-is = ap length rows ∙ length-rows kinds
+  size-is = ap length rows ∙ length-map kinds (λ x. x.row)
 
   pub block-within : (i : ℕ) → i < size_of t → slice_index blocks i < size_of q
   block-within i h = rw (size-is, ← r.partition.number) (within (slice_index blocks) (size_of t) i r.partition.order h)
@@ -213,9 +211,6 @@ module _ (s n : Diagrams) (t q : Table) (blocks : List ℕ) (kinds : List Key) (
     member = has_member;
   }
 
-key_before : (ks : List Key) (x : Key) (i : ℕ) (k : Key) → slice_get ks i ≡ Some k → slice_get (ks ++ x ∷ []) i ≡ Some k
-key_before ks x i k e = get-push_before ks x i (get-within ks i k e) ∙ e
-
 -- no key at all
 pub keys_none : (s n : Diagrams) (t : Table) (blocks : List ℕ) (keys : List Key) → keys ≡ [] → AreKeys s n t blocks keys 0
 keys_none s n t blocks keys e = record { size = ap length e; key = λ at h. absurd (omega (arith, h)) }
@@ -226,7 +221,7 @@ pub keys_more : (s n : Diagrams) (t : Table) (blocks : List ℕ) (keys : List Ke
 keys_more s n t blocks keys count x id k e m = record {
   size = length-append keys _ ∙ ap (λ z. z + 1) k.size;
   key = λ i l. elim (place_cases i count l) [
-    | inl h ↦ let y = k.key i h in (y.0, key_before keys _ i _ y.1, y.2)
+    | inl h ↦ let y = k.key i h in (y.0, push_lasts keys _ i _ y.1, y.2)
     | inr h ↦ (
       id,
       ap (slice_get (keys ++ record { mark = x; row = id } ∷ [])) (h ∙ sym k.size) ∙ get-push_at keys _ ∙ (λ d. Some (record { mark = (e ∙ ap (mark_of t) (sym h)) d; row = id })),
@@ -234,20 +229,6 @@ keys_more s n t blocks keys count x id k e m = record {
     )
   ];
 }
-
--- all locations in block 0
-pub replicate-zero : (n i : ℕ) → slice_index (replicate n 0) i ≡ 0
-replicate-zero zero i = refl
-replicate-zero (suc n) zero = refl
-replicate-zero (suc n) (suc i) = replicate-zero n i
-
-pub length-zeros : (n : ℕ) → length {A = ℕ} (replicate n 0) ≡ n
-length-zeros zero = refl
-length-zeros (suc n) = ap suc (length-zeros n)
-
-pub length-marks : (ks : List Key) → length (map (λ x. x.mark) ks) ≡ length ks
-length-marks [] = refl
-length-marks (x ∷ ks) = ap suc (length-marks ks)
 
 -- the block of a location has a kind
 pub refined_within : (s n : Diagrams) (t : Table) (blocks : List ℕ) (kinds : List Key) → IsRefined s n t blocks kinds → (i : ℕ) → i < size_of t → slice_index blocks i < length kinds
@@ -264,6 +245,7 @@ least_ok s n after t q blocks kinds first f k grows r c (Ok u) a b =
     (subst (λ p. IsSubautomaton p (moves_of n q) (moves_of after u)) k.extends.props a)
     (subst (λ p. IsNumbered p (moves_of after u)) k.extends.props b)
 
+-- what is renumbered has the marks of the automaton that was divided
 pub marks_ok : {E : Type 0} (s n after : Diagrams) (t q : Table) (blocks : List ℕ) → t.first < size_of t → q.first < size_of q → Fits s t → Fits n q → Keeps s n
     → IsQuotient s.props (moves_of s t) (moves_of n q) (slice_index blocks) → (r : Result Table E)
     → IfOk r (λ u. HaveSameMarks (moves_of after u) (moves_of n q)) → IfOk r (λ u. HaveSameMarks (moves_of after u) (moves_of s t))

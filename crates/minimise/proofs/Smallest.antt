@@ -6,6 +6,7 @@ use Rattle.automata.proofs.Words.{over-append, location_after-append, location_a
 use Rattle.minimise.proofs.Counts.{named}
 use Rattle.automata.proofs.Pigeon.{no_more_than}
 
+-- an automaton with the same marks after each word has no fewer locations than a least one
 pub least_is_smallest : LeastIsSmallest
 least_is_smallest p m n l c alike = no_more_than n.size m.size to small apart
   where

@@ -105,6 +105,7 @@ same_size x y f g =
       ]
     ]
 
+-- numbered least automata with the same marks after each word are the same
 pub least_is_unique : LeastIsUnique
 least_is_unique p m n l a g b alike =
     let ekila : HaveSameMarksOver p n m = λ w o. sym (alike w o) in

@@ -40,3 +40,8 @@ pub record IsDividedInRounds (s : Diagrams) (t : Table) (blocks : List ℕ) : Ty
   pub rounds : ℕ
   pub size : length blocks ≡ size_of t
   pub divided : IsDivided s.props (moves_of s t) rounds (slice_index blocks)
+
+-- each listed location has the block that it had
+abbrev pub HaveStayed : List ℕ → List ℕ → List ℕ → Type 0
+HaveStayed locations old new = (k : ℕ) → k < length locations
+    → slice_index old (slice_index locations k) ≡ slice_index new (slice_index locations k)

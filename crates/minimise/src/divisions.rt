@@ -9,7 +9,7 @@ ghost use Rattle.diagrams.specs.Transformed.{IsTransformed, same_id, IsTableItem
 ghost use Rattle.automata.specs.Table.{size_of, Fits};
 ghost use Rattle.minimise.specs.declared.blocks.Key as TheKey;
 ghost use Rattle.minimise.specs.Blocks.{same_key};
-ghost use Rattle.minimise.specs.Divisions.{AreBlockRows, AreTargets, HaveTargets, IsDivision};
+ghost use Rattle.minimise.specs.Divisions.{AreBlockRows, AreTargets, HaveStayed, HaveTargets, IsDivision};
 
 use crate::blocks::Key;
 use crate::targets::Targets;
@@ -29,7 +29,8 @@ pub fn block_rows(
     requires fits { Fits store.old automaton.now }
     requires blocks { length blocks.now ≡ size_of automaton.now }
     ensures keeps { Keeps store.old store.new }
-    ensures rows { IfOk result (λ rows. AreBlockRows store.old store.new automaton.now blocks.now rows.items (size_of automaton.now)) }
+    ensures rows { IfOk result (λ rows.
+        AreBlockRows store.old store.new automaton.now blocks.now rows.items (size_of automaton.now)) }
 {
     prove!(store.props() <= 32);
     let mut memo = Memo::new(alloc);
@@ -44,7 +45,7 @@ pub fn block_rows(
 fn have_moved(locations: &[u32], old: &[u32], new: &[u32]) -> bool
     requires old { (k : ℕ) → k < length locations.now → slice_index locations.now k < length old.now }
     requires new { (k : ℕ) → k < length locations.now → slice_index locations.now k < length new.now }
-    ensures { result ≡ false → (k : ℕ) → k < length locations.now → slice_index old.now (slice_index locations.now k) ≡ slice_index new.now (slice_index locations.now k) }
+    ensures { result ≡ false → HaveStayed locations.now old.now new.now }
 {
     for at in locations {
         if old[*at as usize] != new[*at as usize] {
@@ -96,7 +97,8 @@ pub fn renewed_rows(
     requires new { length new.now ≡ size_of automaton.now }
     requires rows { AreBlockRows store.old store.old automaton.now old.now rows.now (size_of automaton.now) }
     ensures keeps { Keeps store.old store.new }
-    ensures rows { IfOk result (λ rows. AreBlockRows store.old store.new automaton.now new.now rows.items (size_of automaton.now)) }
+    ensures rows { IfOk result (λ rows.
+        AreBlockRows store.old store.new automaton.now new.now rows.items (size_of automaton.now)) }
 {
     prove!(store.props() <= 32);
     let mut memo = Memo::new(alloc);
@@ -120,7 +122,8 @@ pub fn renewed_rows(
 /// The first location that had the key, which is this one if none had.
 fn first_of(firsts: &mut HashMap<Key, u32>, key: Key, at: u32) -> Result<u32, Memory>
     ensures first { IfOk result (λ first. first ≡ unwrap_or (get same_key firsts.old key) at) }
-    ensures kept { IfOk result (λ first. (other : TheKey.Key) → get same_key firsts.new other ≡ (if same_key key other then Some first else get same_key firsts.old other)) }
+    ensures kept { IfOk result (λ first. (other : TheKey.Key)
+        → get same_key firsts.new other ≡ (if same_key key other then Some first else get same_key firsts.old other)) }
 {
     if let Some(first) = firsts.get(&key) {
         return Ok(*first);

@@ -69,7 +69,8 @@ fn settle(alloc: Global, store: &mut Store, automaton: &Automaton) -> Result<Vec
 fn begin(alloc: Global, store: &mut Store, automaton: &Automaton) -> Result<KeyedBlocks, Memory>
     requires fits { Fits store.old automaton.now }
     ensures keeps { Keeps store.old store.new }
-    ensures refining { IfOk result (λ made. IsRefining store.old store.new automaton.now made.blocks.items (length made.kinds.keys)) }
+    ensures refining { IfOk result (λ made.
+        IsRefining store.old store.new automaton.now made.blocks.items (length made.kinds.keys)) }
 {
     prove!(automaton.first() < automaton.size());
     let settled = settle(alloc, store, automaton)?;

@@ -1,7 +1,8 @@
 use Rattle.std.proofs.Common.{◌≡◌, ◌<◌, ◌≤◌, ◌+◌, Some, arith, sym, ◌∙◌, ap, length, get_or}
 use Rattle.std.specs.Prelude.{slice_get}
+use Rattle.std.proofs.lemmas.Option.{slice_get-get_or}
 use Rattle.minimise.specs.declared.blocks.Key.{Key}
-use Rattle.minimise.proofs.PartitionLemmas.{key_true, partition_none, partition_more, partition_few, no_items, inserted_few, get-read}
+use Rattle.minimise.proofs.PartitionLemmas.{key_true, partition_none, partition_more, partition_few, no_items, inserted_few}
 use Rattle.minimise.proofs.blocks.divide.Goals as goal
 
 none : Key
@@ -33,4 +34,4 @@ loop-key-preserved c =
     let here : slice_get new c.in_ok-block.block ≡ Some key = stored.1 ∙ ap Some (sym (key_true key stored.0 stored.2)) in
     rw (c.in_ok-push.ensures.items)
     (partition_more keys c.loop-key.blocks.items old new c.loop-key.key-index key c.in_ok-block.block c.loop-key.invariant c.loop-key-test.true
-    (get-read keys c.loop-key.key-index none c.loop-key-test.true) c.in_ok-block.ensures.keys here)
+    (slice_get-get_or keys c.loop-key.key-index none c.loop-key-test.true) c.in_ok-block.ensures.keys here)

@@ -1,11 +1,11 @@
 use Rattle.std.proofs.Common.{◌≡◌, ◌<◌, ◌∙◌, ap, subst, length}
 use Rattle.std.specs.Prelude.{slice_index}
+use Rattle.std.proofs.lemmas.List.{length-replicate, get_or-replicate}
 use Rattle.diagrams.proofs.Meaning.{Keeps_trans}
 use Rattle.automata.specs.Table.{size_of, row_of}
 use Rattle.automata.proofs.Lasts.{fits_lasts}
 use Rattle.minimise.specs.Divisions.{AreBlockRows, IsDivision, targets_at}
 use Rattle.minimise.proofs.DivisionLemmas.{rows_now, targets_last, settling_begins, division_divides}
-use Rattle.minimise.proofs.RefineLemmas.{replicate-zero, length-zeros}
 use Rattle.minimise.proofs.rounds.settle.Goals as goal
 
 pub loop-init : goal.loop-init
@@ -16,8 +16,8 @@ loop-init c =
     let blocks = c.in_ok-blocks.blocks.items in
     let rows = c.in_ok-rows.rows.items in
     let zeros = c.in_ok-blocks.ensures in
-    let long : length blocks ≡ size_of t = ap length zeros ∙ length-zeros c.size-2.result ∙ c.size-2.ensures.size in
-    settling_begins s n t blocks rows c.in_ok-rows.ensures.keeps c.requires.fits long (λ i h. ap (λ xs. slice_index xs i) zeros ∙ replicate-zero c.size-2.result i)
+    let long : length blocks ≡ size_of t = ap length zeros ∙ length-replicate c.size-2.result 0 ∙ c.size-2.ensures.size in
+    settling_begins s n t blocks rows c.in_ok-rows.ensures.keeps c.requires.fits long (λ i h. ap (λ xs. slice_index xs i) zeros ∙ get_or-replicate c.size-2.result i 0 0 (rw (c.size-2.ensures.size) h))
     (subst (λ bs. AreBlockRows s n t bs rows (size_of t)) c.deref.ensures.value c.in_ok-rows.ensures.rows)
 
 pub renewed_rows-requires-clause-fits : goal.renewed_rows-requires-clause-fits
