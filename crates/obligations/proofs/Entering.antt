@@ -46,6 +46,7 @@ asks_none n base size i m = record {
   value = λ a. rw (m.value a) refl;
 }
 
+-- what is asked in a store is asked in a later one
 pub asks_last : (s n : Diagrams) → Keeps s n → (base size : ℕ) (ats : List ℕ) (i : Id) → Asks s base size ats i → Asks n base size ats i
 asks_last s n k base size ats i x = record {
   claim = claim_lasts s n k (base + size) i x.claim;
@@ -111,10 +112,11 @@ below_at size [] k b h = absurd (omega arith)
 below_at size (at ∷ ats) zero b h = b.0
 below_at size (at ∷ ats) (suc k) b h = below_at size ats k b.1 (omega arith)
 
--- one diagram more
+-- no diagram yet
 pub all_ask_none : (s : Diagrams) (base size : ℕ) (wider : ℕ → List ℕ) (items : List Id) → items ≡ [] → AllAsk s base size wider items 0
 all_ask_none s base size wider items e = record { number = ap length e; each = λ at h. absurd (omega arith) }
 
+-- one diagram more
 pub all_ask_next : (s n : Diagrams) → Keeps s n → (base size : ℕ) (wider : ℕ → List ℕ) (items : List Id) (count : ℕ) (id : Id) → AllAsk s base size wider items count → Asks n base size (wider count) id
     → AllAsk n base size wider (items ++ id ∷ []) (count + 1)
 all_ask_next s n k base size wider items count id x y =
@@ -145,6 +147,7 @@ ask_claims s base size wider items count x at h = let e = x.number in (x.each at
 pub claims_later : (s : Diagrams) (count : ℕ) (items : List Id) → AllClaims s count items → AllAreLater s items
 claims_later s count items all at h = record { live = (all at h).live; over = λ a b same. (all at h).over a b (λ v q. same v q.0) }
 
+-- items that depend on obligations alone do so in a later store
 pub later_last : (s n : Diagrams) → Keeps s n → (items : List Id) → AllAreLater s items → AllAreLater n items
 later_last s n k items all at h =
     let x = all at h in
@@ -167,11 +170,12 @@ entered_now s n k items all row id r m = record {
   enters = record { live = m.live; value = λ a. m.value a ∙ sym (entered_value-lasts s n k items all row r a) };
 }
 
+-- what is entered in a store is entered in a later one
 pub entered_lasts : (s n : Diagrams) → Keeps s n → (items : List Id) → AllAreLater s items → (row id : Id) → IsEntered s items row id → IsEntered n items row id
 entered_lasts s n k items all row id e =
     entered_now s n k items all row id e.row_fits (means_lasts s n k id (entered_value s items row) e.enters)
 
--- and so do those in a memo
+-- and so is each entry of a memo
 pub kept_entered_last : (s n : Diagrams) → Keeps s n → (items : List Id) → AllAreLater s items → (m : Memo Id) → AllKept same_id (IsEntered s items) m → AllKept same_id (IsEntered n items) m
 kept_entered_last s n k items all m r = kept_weaker same_id (IsEntered s items) (IsEntered n items) m (λ row id e. entered_lasts s n k items all row id e) r
 
@@ -187,6 +191,7 @@ pub record WalksOn (s : Diagrams) (size : ℕ) (f lo hi : Id) (v : ℕ) : Type 0
   pub hi_less : tree_size (tree s hi) < tree_size (tree s f)
   pub small : v < s.props
 
+-- the children of a row's node are rows with smaller trees, and the node's variable is a proposition
 pub walks_on : (s : Diagrams) → IsCanonical s → (size : ℕ) (f lo hi : Id) (v : ℕ) → top_of s f ≡ Some (Node v lo hi) → IsRow s size f → WalksOn s size f lo hi v
 walks_on s c size f lo hi v e r =
     let d = down s c f lo hi v e in
@@ -218,6 +223,7 @@ pub record EntersChildren (s0 s2 : Diagrams) (items : List Id) (v : ℕ) (lo hi 
   pub low_above : DependsOn s2 low (λ w. v < w)
   pub high_above : DependsOn s2 high (λ w. v < w)
 
+-- children that were entered one after the other are both entered in the last store
 pub enters_children : (s0 s1 s2 : Diagrams) → Keeps s0 s1 → Keeps s1 s2 → (items : List Id) → AllAreLater s0 items → (v : ℕ) (f lo hi low high : Id)
     → top_of s0 f ≡ Some (Node v lo hi) → WalksOn s0 (length items) f lo hi v → Enters s0 s1 items lo low → Enters s1 s2 items hi high → EntersChildren s0 s2 items v lo hi low high
 enters_children s0 s1 s2 k0 k1 items all v f lo hi low high e w x y =

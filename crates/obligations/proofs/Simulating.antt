@@ -27,13 +27,14 @@ use Rattle.obligations.proofs.InclusionLemmas.{all_simulate}
 pub leads_terminal : (s : Diagrams) (R : ℕ → ℕ → Bool) (f g : Id) (x y : ℕ) → top_of s f ≡ Some (Terminal x) → top_of s g ≡ Some (Terminal y) → R x y ≡ true → LeadsWithin s R f g
 leads_terminal s R f g x y ef eg h a = rw (eval-terminal s f x ef a, eval-terminal s g y eg a) h
 
--- the parts of a diagram lead below what it leads below
+-- the low part of a diagram leads below what the diagram leads below
 pub low_below : (s : Diagrams) → IsCanonical s → (size v : ℕ) (f lo hi : Id) → AreCofactors s v f lo hi → LeadsBelow s size f → LeadsBelow s size lo
 low_below s c size v f lo hi p b = record {
   live = live-above v _ p.lo_above;
   below = λ a. let h = b.below (put a v false) in rw (low-value s c v f lo hi p a) at h;
 }
 
+-- and so does its high part
 pub high_below : (s : Diagrams) → IsCanonical s → (size v : ℕ) (f lo hi : Id) → AreCofactors s v f lo hi → LeadsBelow s size f → LeadsBelow s size hi
 high_below s c size v f lo hi p b = record {
   live = live-above v _ p.hi_above;
@@ -155,6 +156,7 @@ simulators_wider s t R size x list e i a = record {
   same = λ w. wider_among s t (or_same R) (simulation_or_same s t R i) x list a.each a.itself w;
 }
 
+-- where a list was made of locations that simulate one, itself among them
 pub simulators_wider_ok : {X E : Type 0} (r : Result X E) (view : X → List ℕ) (s : Diagrams) (t : Table) (R : ℕ → ℕ → Bool) (size x : ℕ) → size ≡ size_of t → IsSimulation s t R
     → IfOk r (λ list. AreSimulators R size x (view list)) → IfOk r (λ list. IsWiderAt s t x (view list))
 simulators_wider_ok r view s t R size x e i =
@@ -203,6 +205,7 @@ pub below_push : (size : ℕ) (list : List ℕ) (y : ℕ) → AllBelow size list
 below_push size [] y b h = (h, tt)
 below_push size (x ∷ xs) y b h = (b.0, below_push size xs y b.1 h)
 
+-- one location more in a list of those that simulate one
 pub simulate_push : (R : ℕ → ℕ → Bool) (x : ℕ) (list : List ℕ) (y : ℕ) → AllSimulate R x list → R x y ≡ true → AllSimulate R x (list ++ y ∷ [])
 simulate_push R x [] y a h = (h, tt)
 simulate_push R x (z ∷ zs) y a h = (a.0, simulate_push R x zs y a.1 h)

@@ -90,6 +90,7 @@ pub record IsSetting (s0 s : Diagrams) (c d : List Obligation) (t : Table) (base
   pub others : HasOtherBodies base c d
   pub bodies : AllEnter s d t base items count
 
+-- no body is set yet
 pub setting_none : (s : Diagrams) → IsCanonical s → (c : List Obligation) (t : Table) (base : ℕ) (items : List Id) → FitsCells s c → IsSetting s s c c t base items 0
 setting_none s k c t base items fits = record {
   keeps = Keeps_refl s k;

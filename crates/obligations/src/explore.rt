@@ -89,7 +89,8 @@ pub fn determinise(
     ensures keeps { Keeps store.old store.new }
     ensures fits { IfOk result (λ made. Fits store.new made) }
     ensures marks { IfOk result (λ made. (at : ℕ) → at < size_of made → mark_of made at < 2) }
-    ensures accepts { IfOk result (λ made. (word : List ℕ) → accepts (moves_of store.new made) word ≡ holds store.old cells.now start word) }
+    ensures accepts { IfOk result (λ made.
+        (word : List ℕ) → accepts (moves_of store.new made) word ≡ holds store.old cells.now start word) }
 {
     prove!(store.props() <= 32);
     let bodies = bodies_of(alloc, cells)?;

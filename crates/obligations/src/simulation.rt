@@ -22,7 +22,8 @@ pub struct Compared {
 /// Notes that the targets of two rows are related.
 fn note(known: &mut HashSet<Compared>, both: Compared) -> Result<(), Memory>
     ensures ok { OnOk result (IsNoted known.old known.new both) }
-    ensures err { OnErr result ((other : Compared) → set.contains same_compared known.new other ≡ set.contains same_compared known.old other) }
+    ensures err { OnErr result ((other : Compared)
+        → set.contains same_compared known.new other ≡ set.contains same_compared known.old other) }
 {
     known.insert(both)?;
     Ok(())
@@ -81,7 +82,8 @@ fn is_simulated(
     requires y { y < size_of automaton.now }
     requires known { IsKnown store.now (related relation.now) known.old }
     ensures known { IsKnown store.now (related relation.now) known.new }
-    ensures simulated { IfOk result (λ simulated. simulated ≡ true → IsSimulated store.now automaton.now (related relation.now) x y) }
+    ensures simulated { IfOk result (λ simulated.
+        simulated ≡ true → IsSimulated store.now automaton.now (related relation.now) x y) }
 {
     if automaton.mark(x) == 1 && automaton.mark(y) != 1 {
         return Ok(false);
@@ -105,7 +107,8 @@ fn strike_pairs(
     ensures size { relation.new.size ≡ relation.old.size }
     ensures known { IsKnown store.now (related relation.new) known.new }
     ensures same { IfOk result (λ struck. struck ≡ false → relation.new ≡ relation.old) }
-    ensures simulated { IfOk result (λ struck. struck ≡ false → AreSimulated store.now automaton.now (related relation.new) x (size_of automaton.now)) }
+    ensures simulated { IfOk result (λ struck.
+        struck ≡ false → AreSimulated store.now automaton.now (related relation.new) x (size_of automaton.now)) }
 {
     let mut struck = false;
     for y in 0..relation.size() {
