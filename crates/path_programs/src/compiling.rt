@@ -38,9 +38,11 @@ pub fn compile(
     ensures keeps { Keeps store.old store.new }
     ensures fits { FitsCells store.new cells.new }
     ensures grows { GoesOn cells.old cells.new }
-    ensures earlier { (word : List ℕ) (j : ℕ) → j < length cells.old → cell store.new cells.new word j ≡ cell store.old cells.old word j }
+    ensures earlier { (word : List ℕ) (j : ℕ) → j < length cells.old
+        → cell store.new cells.new word j ≡ cell store.old cells.old word j }
     ensures number { IfOk result (λ j. j < length cells.new) }
-    ensures leads { IfOk result (λ j. (word : List ℕ) → cell store.new cells.new word j ≡ reaches (λ u v. goes store.old.props (program path.now) u v) (λ v. cell store.new cells.new v then) word) }
+    ensures leads { IfOk result (λ j. (word : List ℕ) → cell store.new cells.new word j
+        ≡ reaches (λ u v. goes store.old.props (program path.now) u v) (λ v. cell store.new cells.new v then) word) }
 {
     prove!(then < cells.len());
     let mut untaken = tests.len();

@@ -79,7 +79,8 @@ pub(crate) fn again(store: &mut Store, cells: &mut Cells, later: Id) -> Result<I
     ensures one { OnOk result (length cells.new ≡ length cells.old + 1) }
     ensures end { OnOk result (ends_of cells.new (length cells.old) ≡ false) }
     ensures claim { IfOk result (IsClaim store.new (length cells.new)) }
-    ensures again { IfOk result (λ id. IsOneWhere store.new id (λ a. a (store.new.props + length cells.old) || is_one store.old later a)) }
+    ensures again { IfOk result (λ id.
+        IsOneWhere store.new id (λ a. a (store.new.props + length cells.old) || is_one store.old later a)) }
 {
     let turn = literal(store, cells.len())?;
     let next = either(store, turn, later)?;

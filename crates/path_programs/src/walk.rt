@@ -28,7 +28,8 @@ fn step(store: &mut Store, form: &Form, later: Id) -> Result<Lead, Memory>
     requires later { IsTruth store.old later }
     ensures keeps { Keeps store.old store.new }
     ensures bodies { IfOk result (λ l. (count : ℕ) → IsClaim store.old count later → AreBodies store.new count l) }
-    ensures lead { IfOk result (λ l. (from : ℕ) (c : List Obligation) → IsClaim store.old (length c) later → IsLead store.new from c (Step (tree form.now)) later l) }
+    ensures lead { IfOk result (λ l. (from : ℕ) (c : List Obligation) → IsClaim store.old (length c) later
+        → IsLead store.new from c (Step (tree form.now)) later l) }
 {
     let now = condition(store, form)?;
     let further = both(store, now, later)?;
@@ -51,7 +52,9 @@ fn test(
     requires automaton { Fits store.old automaton.now }
     ensures grown { HasGrown store.old cells.old store.new cells.new }
     ensures bodies { IfOk result (AreBodies store.new (length cells.new)) }
-    ensures lead { IfOk result (λ l. (f : Formula) (later : Id) → IsProper store.old.props f → (automaton.now.first < size_of automaton.now → IsMeant store.old automaton.now f) → IsLead store.new (length cells.old) cells.new (Test f) later l) }
+    ensures lead { IfOk result (λ l. (f : Formula) (later : Id) → IsProper store.old.props f
+        → (automaton.now.first < size_of automaton.now → IsMeant store.old automaton.now f)
+        → IsLead store.new (length cells.old) cells.new (Test f) later l) }
 {
     let further = never(store)?;
     let wider = find_inclusions(alloc, store, automaton)?;
