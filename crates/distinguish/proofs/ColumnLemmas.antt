@@ -1,6 +1,7 @@
 -- Columns of marks, and the first that tells two locations apart.
-use Rattle.std.proofs.Common.{◌≡◌, ◌<◌, ◌+◌, ◌++◌, ℕ, zero, suc, List, [], ◌∷◌, Some, sym, ◌∙◌, ap, arith, inl, inr, length, length-append}
-use Rattle.std.specs.Prelude.{slice_get, slice_index, slice_index_or}
+use Rattle.std.proofs.Common.{◌≡◌, ◌<◌, ◌+◌, ◌++◌, ℕ, List, [], ◌∷◌, sym, ◌∙◌, ap, arith, inl, inr, length, length-append}
+use Rattle.std.specs.Prelude.{slice_index, slice_index_or}
+use Rattle.std.proofs.lemmas.List.{get_or_append_left, get_or_at}
 use Rattle.forms.specs.Word.{Word}
 use Rattle.diagrams.specs.Eval.{Diagrams, letter_truth}
 use Rattle.automata.specs.Moves.{Moves}
@@ -9,13 +10,6 @@ use Rattle.automata.proofs.FindingLemmas.{place_cases}
 use Rattle.distinguish.specs.declared.steps.Step.{Step}
 use Rattle.distinguish.specs.Columns.{IsColumn, AreColumns}
 use Rattle.distinguish.specs.Steps.{CanFollow, word_of}
-use Rattle.minimise.proofs.DivisionLemmas.{item_before, item_last}
-
--- an item that was read is the one at its place
-pub item_read : {A : Type 0} → (xs : List A) (i : ℕ) (x d : A) → slice_get xs i ≡ Some x → slice_index_or xs i d ≡ x
-item_read [] i x d e = absurd (cc)
-item_read (y ∷ xs) zero x d e = cc
-item_read (y ∷ xs) (suc i) x d e = item_read xs i x d e
 
 -- one more word
 pub columns_more : (m : Moves) (words : List Word) (columns : List (List ℕ)) (w : Word) (column : List ℕ) → AreColumns m words columns → IsColumn m w column
@@ -23,10 +17,10 @@ pub columns_more : (m : Moves) (words : List Word) (columns : List (List ℕ)) (
 columns_more m words columns w column a c = record {
   size = length-append columns (column ∷ []) ∙ ap (λ n. n + 1) a.size ∙ sym (length-append words (w ∷ []));
   column = λ k l. elim (place_cases k (length words) (omega (arith, l, length-append words (w ∷ [])))) [
-    | inl h ↦ rw (item_before words w [] k h, item_before columns column [] k (rw (a.size) h)) (a.column k h)
+    | inl h ↦ rw (get_or_append_left words (w ∷ []) [] k h, get_or_append_left columns (column ∷ []) [] k (rw (a.size) h)) (a.column k h)
     | inr h ↦
-        let first : slice_index_or (words ++ w ∷ []) k [] ≡ w = rw (h) (item_last words w []) in
-        let second : slice_index_or (columns ++ column ∷ []) k [] ≡ column = rw (h, ← a.size) (item_last columns column []) in
+        let first : slice_index_or (words ++ w ∷ []) k [] ≡ w = get_or_at words w [] [] k (sym h) in
+        let second : slice_index_or (columns ++ column ∷ []) k [] ≡ column = get_or_at columns column [] [] k (a.size ∙ sym h) in
         rw (first, second) c
   ];
 }

@@ -16,8 +16,7 @@ use Rattle.diagrams.proofs.Meaning.{eval-lasts, live_lasts, means_lasts, Keeps_t
 use Rattle.obligations.specs.declared.cells.Obligation.{Obligation}
 use Rattle.obligations.specs.Value.{by_values, cell, holds, IsClaim, IsBody, FitsCells}
 use Rattle.obligations.specs.Inclusion.{later}
-use Rattle.obligations.proofs.Holds.{by_values-obligations, cell-lasts, body_lasts}
-use Rattle.translate.proofs.StandingLemmas.{body_wider}
+use Rattle.obligations.proofs.Holds.{by_values-obligations, cell-lasts, body_lasts, body_wider}
 use Rattle.translate.specs.Joined.{IsJoin, joined}
 
 -- a literal is 0 or 1

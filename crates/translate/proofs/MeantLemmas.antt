@@ -1,6 +1,6 @@
 -- The least automata of operators, over those of their operands in earlier stores.
 use mathlib.Core.Path.{fun_ext}
-use Rattle.std.proofs.Common.{◌≡◌, ℕ, zero, suc, ◌<◌, ◌≤◌, Bool, true, false, List, [], ◌∷◌, refl, sym, ◌∙◌, ap, ap₂, subst, arith, not, ◌&&◌}
+use Rattle.std.proofs.Common.{◌≡◌, ℕ, ◌<◌, ◌≤◌, Bool, true, false, List, [], ◌∷◌, refl, sym, ◌∙◌, ap, ap₂, subst, not, ◌&&◌}
 use Rattle.std.specs.Prelude.{◌==◌, All}
 use Rattle.std.proofs.lemmas.List.Elements.{All-append, All-cons, All-nil}
 use Rattle.forms.specs.Word.{Word, Claim, IsOver, is_empty}
@@ -19,7 +19,7 @@ use Rattle.automata.proofs.Lasts.{mark_after-lasts, meant_lasts}
 use Rattle.automata.proofs.Everywhere.{IsMeant-everywhere}
 use Rattle.automata.proofs.Words.{location_after-within}
 use Rattle.minimise.specs.Minimal.{IsLeastFor, Decides, AreTheSame}
-use Rattle.minimise.proofs.Counts.{size_is_class_count}
+use Rattle.minimise.proofs.Counts.{same_bit, size_is_class_count}
 use Rattle.minimise.proofs.Unique.{least_is_unique}
 use Rattle.minimise.proofs.Smallest.{least_is_smallest}
 use Rattle.translate.specs.declared.operation.Unary.{Unary}
@@ -118,18 +118,10 @@ least_for s t f p e h =
 pub class_count : (s : Diagrams) (t : Table) (f : Claim) (p : ℕ) → s.props ≡ p → IsLeastOf s t f → HasClassCount p f (size_of t)
 class_count s t f p e h = subst (λ q. HasClassCount q f (size_of t)) e (size_is_class_count s.props (moves_of s t) f h.least (decides_of s t f h))
 
-pub same_mark : (x y : ℕ) → x < 2 → y < 2 → (x == 1) ≡ (y == 1) → x ≡ y
-same_mark zero zero h k e = refl
-same_mark zero (suc zero) h k e = absurd (cc)
-same_mark (suc zero) zero h k e = absurd (cc)
-same_mark (suc zero) (suc zero) h k e = refl
-same_mark (suc (suc x)) y h k e = absurd (omega arith)
-same_mark x (suc (suc y)) h k e = absurd (omega arith)
-
 -- two automata that decide claims that agree have the same marks
 pub agree_of : (p : ℕ) (m n : Moves) (f g : Claim) → IsClosed p m → IsClosed p n → Decides p m f → Decides p n g → ((w : Word) → IsOver p w → f w ≡ g w) → HaveSameMarksOver p m n
 agree_of p m n f g c d x y e w o =
-    same_mark (mark_after m m.first w) (mark_after n n.first w)
+    same_bit (mark_after m m.first w) (mark_after n n.first w)
     (x.marks (location_after m m.first w) (location_after-within p m c m.first w c.first o))
     (y.marks (location_after n n.first w) (location_after-within p n d n.first w d.first o))
     (sym (x.accepts w o) ∙ e w o ∙ y.accepts w o)

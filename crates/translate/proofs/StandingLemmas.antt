@@ -1,5 +1,5 @@
 -- Obligations that stand for claims, as the store and the table grow.
-use Rattle.std.proofs.Common.{◌≡◌, ℕ, ◌<◌, ◌≤◌, ◌+◌, ◌++◌, Bool, true, false, List, [], ◌∷◌, length, length-append, refl, sym, ◌∙◌, ap, arith, inl, inr}
+use Rattle.std.proofs.Common.{◌≡◌, ℕ, ◌<◌, ◌+◌, ◌++◌, Bool, true, false, List, [], ◌∷◌, length, length-append, refl, sym, ◌∙◌, ap, arith, inl, inr}
 use Rattle.std.specs.Prelude.{◌==◌, not, slice_index_or}
 use Rattle.std.specs.Int.{from_bool}
 use Rattle.std.proofs.lemmas.Bool.{cases_lt}
@@ -17,7 +17,7 @@ use Rattle.obligations.specs.declared.cells.Obligation.{Obligation}
 use Rattle.obligations.specs.Table.{missing, ends_of, body_of}
 use Rattle.obligations.specs.Value.{cell, IsBody, FitsCells, joint}
 use Rattle.obligations.specs.Followed.{GoesOn, StandsFor}
-use Rattle.obligations.proofs.Holds.{body_lasts}
+use Rattle.obligations.proofs.Holds.{body_lasts, body_wider}
 use Rattle.translate.specs.Exact.{accepted}
 use Rattle.translate.specs.Joined.{ended}
 use Rattle.translate.specs.Standing.{Stands}
@@ -72,10 +72,6 @@ Stands-location s0 s c t base k f h count x = record {
       x n d l (record { longer = g.longer; same = λ j a b. g.same j (omega arith) b }) t.first h w
       ∙ accepted-lasts s0 s k t f h w;
 }
-
--- a body over more obligations
-pub body_wider : (s : Diagrams) (count more : ℕ) (f : Id) → count ≤ more → IsBody s count f → IsBody s more f
-body_wider s count more f h b = record { live = b.live; over = λ x y same. b.over x y (λ v l. same v (omega arith)); truth = b.truth }
 
 -- a constant is a body
 pub body_constant : (s : Diagrams) (count x : ℕ) (f : Id) → x < 2 → Means s f (λ _. x) → IsBody s count f

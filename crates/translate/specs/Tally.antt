@@ -2,8 +2,11 @@
 use Rattle.std.specs.Prelude.{◌≡◌, ℕ, ◌<◌, ◌≤◌, ◌+◌, List, ◌∷◌, ◌++◌, length}
 use Rattle.std.specs.List.{AllZip}
 use Rattle.forms.specs.Tree.{Formula}
+use Rattle.forms.specs.Parts.{parts}
 use Rattle.forms.specs.Satisfaction.{sat}
 use Rattle.forms.specs.Equivalence.{HasClassCount}
+use Rattle.translate.specs.declared.fault.TranslateFault.{TranslateFault}
+use Rattle.translate.specs.Counting.{IfTooMany}
 
 -- the formula has so many classes of equivalent words, no more than the limit
 pub record HasCountWithin (p limit : ℕ) (f : Formula) (count : ℕ) : Type 0 where
@@ -27,3 +30,11 @@ pub record StopsAt (p limit : ℕ) (fs : List Formula) (old : List ℕ) (number 
   pub counted : number ≡ length old + length before + 1
   pub has : HasClassCount p (λ w. sat p stop w) count
   pub over : limit < count
+
+-- after the old counts stand those of the parts of a formula, each within the limit
+abbrev pub AddsPartCounts : ℕ → ℕ → Formula → List ℕ → List ℕ → Type 0
+AddsPartCounts p limit f old new = AddsCounts p limit (parts f) old new
+
+-- where the fault is too many classes, a part of the formula is the first that has more than the limit
+abbrev pub StopsAtPart : ℕ → ℕ → Formula → List ℕ → TranslateFault → Type 0
+StopsAtPart p limit f old fault = IfTooMany fault (StopsAt p limit (parts f) old)

@@ -26,7 +26,8 @@ pub fn both(alloc: Global, store: &mut Store, a: &Meant, b: &Meant) -> Result<Me
     requires b { IsMeant store.old b.now.automaton (tree b.now.form) }
     ensures keeps { Keeps store.old store.new }
     ensures form { IfOk result (λ made. tree made.form ≡ And (tree a.now.form) (tree b.now.form)) }
-    ensures least { IfOk result (λ made. IsLeastOf store.new made.automaton (λ w. accepted store.old a.now.automaton w && accepted store.old b.now.automaton w)) }
+    ensures least { IfOk result (λ made. IsLeastOf store.new made.automaton
+        (λ w. accepted store.old a.now.automaton w && accepted store.old b.now.automaton w)) }
     ensures meant { IfOk result (λ made. IsMeant store.new made.automaton (tree made.form)) }
 {
     let automaton = operators::and(alloc, store, &a.automaton, &b.automaton)?;
@@ -44,7 +45,8 @@ pub fn either(alloc: Global, store: &mut Store, a: &Meant, b: &Meant) -> Result<
     requires b { IsMeant store.old b.now.automaton (tree b.now.form) }
     ensures keeps { Keeps store.old store.new }
     ensures form { IfOk result (λ made. tree made.form ≡ Or (tree a.now.form) (tree b.now.form)) }
-    ensures least { IfOk result (λ made. IsLeastOf store.new made.automaton (λ w. accepted store.old a.now.automaton w || accepted store.old b.now.automaton w)) }
+    ensures least { IfOk result (λ made. IsLeastOf store.new made.automaton
+        (λ w. accepted store.old a.now.automaton w || accepted store.old b.now.automaton w)) }
     ensures meant { IfOk result (λ made. IsMeant store.new made.automaton (tree made.form)) }
 {
     let automaton = operators::or(alloc, store, &a.automaton, &b.automaton)?;

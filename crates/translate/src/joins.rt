@@ -43,7 +43,8 @@ pub(crate) fn joined_now(
     requires first { of.now.first < length of.now.cells }
     requires second { of.now.second < length of.now.cells }
     ensures keeps { Keeps store.old store.new }
-    ensures least { IfOk result (λ made. IsLeastOf store.new made (λ w. joined op (cell store.old of.now.cells w of.now.first) (cell store.old of.now.cells w of.now.second))) }
+    ensures least { IfOk result (λ made. IsLeastOf store.new made
+        (λ w. joined op (cell store.old of.now.cells w of.now.first) (cell store.old of.now.cells w of.now.second))) }
 {
     prove!(of.cells.len() <= 2147483647);
     let (first, second) = literals(store, of)?;
@@ -63,7 +64,8 @@ pub(crate) fn joined_automata(
     requires a { Fits store.old a.now }
     requires b { Fits store.old b.now }
     ensures keeps { Keeps store.old store.new }
-    ensures least { IfOk result (λ made. IsLeastOf store.new made (λ w. joined op (accepted store.old a.now w) (accepted store.old b.now w))) }
+    ensures least { IfOk result (λ made.
+        IsLeastOf store.new made (λ w. joined op (accepted store.old a.now w) (accepted store.old b.now w))) }
 {
     let of = two_operands(alloc, store, a, b, Asked::Alone)?;
     joined_now(alloc, store, op, &of)
@@ -76,7 +78,8 @@ fn with_next(store: &mut Store, op: Op, now: Id, own: u32) -> Result<Id, Memory>
     requires now { IsBody store.old own now }
     ensures keeps { Keeps store.old store.new }
     ensures body { IfOk result (λ id. IsBody store.new (own + 1) id) }
-    ensures says { IfOk result (λ id. (a : Assignment) → is_one store.new id a ≡ joined op (is_one store.new now a) (later store.new own a)) }
+    ensures says { IfOk result (λ id.
+        (a : Assignment) → is_one store.new id a ≡ joined op (is_one store.new now a) (later store.new own a)) }
 {
     let props = store.props();
     let next = store.literal(props + own)?;
@@ -94,7 +97,8 @@ pub(crate) fn solved_with(
     requires fits { FitsCells store.old cells }
     requires body { IsBody store.old (length cells + 1) body }
     ensures keeps { Keeps store.old store.new }
-    ensures least { IfOk result (λ made. IsLeastOf store.new made (λ w. cell store.old (cells ++ record { ends = ends; body = body } ∷ []) w (length cells))) }
+    ensures least { IfOk result (λ made. IsLeastOf store.new made
+        (λ w. cell store.old (cells ++ record { ends = ends; body = body } ∷ []) w (length cells))) }
 {
     let props = store.props();
     let last = cells.add(ends, body)?;
@@ -139,7 +143,8 @@ pub(crate) fn awaited_by(
     requires a { Fits store.old a.now }
     requires b { Fits store.old b.now }
     ensures keeps { Keeps store.old store.new }
-    ensures least { IfOk result (λ made. IsLeastOf store.new made (awaited outer inner ends (accepted store.old a.now) (accepted store.old b.now))) }
+    ensures least { IfOk result (λ made.
+        IsLeastOf store.new made (awaited outer inner ends (accepted store.old a.now) (accepted store.old b.now))) }
 {
     let of = two_operands(alloc, store, a, b, Asked::WithInclusions)?;
     let now = of.cells.body(of.second);

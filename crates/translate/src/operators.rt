@@ -63,7 +63,8 @@ pub(crate) fn and(
     requires a { Fits store.old a.now }
     requires b { Fits store.old b.now }
     ensures keeps { Keeps store.old store.new }
-    ensures least { IfOk result (λ made. IsLeastOf store.new made (λ w. accepted store.old a.now w && accepted store.old b.now w)) }
+    ensures least { IfOk result (λ made.
+        IsLeastOf store.new made (λ w. accepted store.old a.now w && accepted store.old b.now w)) }
 {
     joined_automata(alloc, store, Op::And, a, b)
 }
@@ -78,7 +79,8 @@ pub(crate) fn or(
     requires a { Fits store.old a.now }
     requires b { Fits store.old b.now }
     ensures keeps { Keeps store.old store.new }
-    ensures least { IfOk result (λ made. IsLeastOf store.new made (λ w. accepted store.old a.now w || accepted store.old b.now w)) }
+    ensures least { IfOk result (λ made.
+        IsLeastOf store.new made (λ w. accepted store.old a.now w || accepted store.old b.now w)) }
 {
     joined_automata(alloc, store, Op::Or, a, b)
 }
@@ -93,7 +95,8 @@ pub(crate) fn implies(
     requires a { Fits store.old a.now }
     requires b { Fits store.old b.now }
     ensures keeps { Keeps store.old store.new }
-    ensures least { IfOk result (λ made. IsLeastOf store.new made (λ w. not (accepted store.old a.now w) || accepted store.old b.now w)) }
+    ensures least { IfOk result (λ made.
+        IsLeastOf store.new made (λ w. not (accepted store.old a.now w) || accepted store.old b.now w)) }
 {
     let of = two_operands(alloc, store, a, b, Asked::Alone)?;
     prove!(of.cells.len() <= 2147483647);
@@ -113,7 +116,8 @@ pub(crate) fn iff(
     requires a { Fits store.old a.now }
     requires b { Fits store.old b.now }
     ensures keeps { Keeps store.old store.new }
-    ensures least { IfOk result (λ made. IsLeastOf store.new made (λ w. claims.agree (accepted store.old a.now w) (accepted store.old b.now w))) }
+    ensures least { IfOk result (λ made.
+        IsLeastOf store.new made (λ w. claims.agree (accepted store.old a.now w) (accepted store.old b.now w))) }
 {
     joined_automata(alloc, store, Op::Iff, a, b)
 }
@@ -128,12 +132,14 @@ pub(crate) fn until(
     requires a { Fits store.old a.now }
     requires b { Fits store.old b.now }
     ensures keeps { Keeps store.old store.new }
-    ensures least { IfOk result (λ made. IsLeastOf store.new made (claims.until (accepted store.old a.now) (accepted store.old b.now))) }
+    ensures least { IfOk result (λ made.
+        IsLeastOf store.new made (claims.until (accepted store.old a.now) (accepted store.old b.now))) }
 {
     awaited_by(alloc, store, Op::Or, Op::And, false, a, b)
 }
 
-/// The automaton of the words from each letter of which the second operand accepts, up to and with one from which the first does, or to the end.
+/// The automaton of the words from each letter of which the second operand accepts, up to and with one from which the
+/// first does, or to the end.
 pub(crate) fn release(
     alloc: Global,
     store: &mut Store,
@@ -143,7 +149,8 @@ pub(crate) fn release(
     requires a { Fits store.old a.now }
     requires b { Fits store.old b.now }
     ensures keeps { Keeps store.old store.new }
-    ensures least { IfOk result (λ made. IsLeastOf store.new made (claims.release (accepted store.old a.now) (accepted store.old b.now))) }
+    ensures least { IfOk result (λ made.
+        IsLeastOf store.new made (claims.release (accepted store.old a.now) (accepted store.old b.now))) }
 {
     awaited_by(alloc, store, Op::And, Op::Or, true, a, b)
 }

@@ -7,7 +7,7 @@ ghost use Rattle.diagrams.specs.Live.{Keeps, IsCanonical};
 ghost use Rattle.translate.specs.Exact.{IsLeastMeant};
 ghost use Rattle.translate.specs.Operation.{constant_form, unary_form, binary_form, modal_form};
 ghost use Rattle.translate.specs.Counting.{IfTooMany};
-ghost use Rattle.translate.specs.Tally.{AddsCounts, StopsAt};
+ghost use Rattle.translate.specs.Tally.{AddsCounts, AddsPartCounts, StopsAt, StopsAtPart};
 ghost use Rattle.path_programs.specs.PathTests.{test_forms};
 ghost use Rattle.translate.specs.PathTests.{IsTest, IsAppended};
 
@@ -35,8 +35,8 @@ pub(crate) fn part(
     requires proper { IsProper store.old.props (tree form.now) }
     ensures keeps { Keeps store.old store.new }
     ensures least { IfOk result (λ made. IsLeastMeant store.new made (tree form.now)) }
-    ensures counts { OnOk result (AddsCounts store.old.props limit (listed.parts (tree form.now)) counts.old counts.new) }
-    ensures too_many { IfErr result (λ fault. IfTooMany fault (StopsAt store.old.props limit (listed.parts (tree form.now)) counts.old)) }
+    ensures counts { OnOk result (AddsPartCounts store.old.props limit (tree form.now) counts.old counts.new) }
+    ensures too_many { IfErr result (StopsAtPart store.old.props limit (tree form.now) counts.old) }
 {
     match form {
         Form::True => constant(alloc, store, true, limit, counts),
@@ -69,7 +69,8 @@ fn constant(
     ensures keeps { Keeps store.old store.new }
     ensures least { IfOk result (λ made. IsLeastMeant store.new made (constant_form value)) }
     ensures counts { OnOk result (AddsCounts store.old.props limit (constant_form value ∷ []) counts.old counts.new) }
-    ensures too_many { IfErr result (λ fault. IfTooMany fault (StopsAt store.old.props limit (constant_form value ∷ []) counts.old)) }
+    ensures too_many { IfErr result (λ fault.
+        IfTooMany fault (StopsAt store.old.props limit (constant_form value ∷ []) counts.old)) }
 {
     let made = operators::constant(alloc, store, value)?;
     counts.add(made.size(), limit)?;
@@ -109,8 +110,8 @@ fn unary(
     requires proper { IsProper store.old.props (tree f.now) }
     ensures keeps { Keeps store.old store.new }
     ensures least { IfOk result (λ made. IsLeastMeant store.new made (unary_form op (tree f.now))) }
-    ensures counts { OnOk result (AddsCounts store.old.props limit (listed.parts (unary_form op (tree f.now))) counts.old counts.new) }
-    ensures too_many { IfErr result (λ fault. IfTooMany fault (StopsAt store.old.props limit (listed.parts (unary_form op (tree f.now))) counts.old)) }
+    ensures counts { OnOk result (AddsPartCounts store.old.props limit (unary_form op (tree f.now)) counts.old counts.new) }
+    ensures too_many { IfErr result (StopsAtPart store.old.props limit (unary_form op (tree f.now)) counts.old) }
 {
     let a = part(alloc, store, f, limit, counts)?;
     let made = op.apply(alloc, store, &a)?;
@@ -134,8 +135,10 @@ fn binary(
     requires g { IsProper store.old.props (tree g.now) }
     ensures keeps { Keeps store.old store.new }
     ensures least { IfOk result (λ made. IsLeastMeant store.new made (binary_form op (tree f.now) (tree g.now))) }
-    ensures counts { OnOk result (AddsCounts store.old.props limit (listed.parts (binary_form op (tree f.now) (tree g.now))) counts.old counts.new) }
-    ensures too_many { IfErr result (λ fault. IfTooMany fault (StopsAt store.old.props limit (listed.parts (binary_form op (tree f.now) (tree g.now))) counts.old)) }
+    ensures counts { OnOk result
+        (AddsPartCounts store.old.props limit (binary_form op (tree f.now) (tree g.now)) counts.old counts.new) }
+    ensures too_many { IfErr result
+        (StopsAtPart store.old.props limit (binary_form op (tree f.now) (tree g.now)) counts.old) }
 {
     let left = part(alloc, store, f, limit, counts)?;
     let right = part(alloc, store, g, limit, counts)?;
@@ -160,8 +163,10 @@ fn modal(
     requires f { IsProper store.old.props (tree f.now) }
     ensures keeps { Keeps store.old store.new }
     ensures least { IfOk result (λ made. IsLeastMeant store.new made (modal_form op (program path.now) (tree f.now))) }
-    ensures counts { OnOk result (AddsCounts store.old.props limit (listed.parts (modal_form op (program path.now) (tree f.now))) counts.old counts.new) }
-    ensures too_many { IfErr result (λ fault. IfTooMany fault (StopsAt store.old.props limit (listed.parts (modal_form op (program path.now) (tree f.now))) counts.old)) }
+    ensures counts { OnOk result
+        (AddsPartCounts store.old.props limit (modal_form op (program path.now) (tree f.now)) counts.old counts.new) }
+    ensures too_many { IfErr result
+        (StopsAtPart store.old.props limit (modal_form op (program path.now) (tree f.now)) counts.old) }
 {
     let mut tests = Vec::new(alloc);
     add_tests(alloc, store, path, limit, counts, &mut tests)?;
@@ -199,10 +204,12 @@ fn add_tests(
     requires canonical { IsCanonical store.old }
     requires proper { IsProperProgram store.old.props (program path.now) }
     ensures keeps { Keeps store.old store.new }
-    ensures tests { OnOk result (map (λ t. tree t.form) tests.new.items ≡ map (λ t. tree t.form) tests.old.items ++ test_forms (program path.now)) }
+    ensures tests { OnOk result (
+        map (λ t. tree t.form) tests.new.items ≡ map (λ t. tree t.form) tests.old.items ++ test_forms (program path.now)) }
     ensures meant { All (IsTest store.old) tests.old.items → OnOk result (All (IsTest store.new) tests.new.items) }
     ensures counts { OnOk result (AddsCounts store.old.props limit (listed.test_parts (program path.now)) counts.old counts.new) }
-    ensures too_many { IfErr result (λ fault. IfTooMany fault (StopsAt store.old.props limit (listed.test_parts (program path.now)) counts.old)) }
+    ensures too_many { IfErr result (λ fault.
+        IfTooMany fault (StopsAt store.old.props limit (listed.test_parts (program path.now)) counts.old)) }
 {
     match path {
         Path::Step(_) => Ok(()),

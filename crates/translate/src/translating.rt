@@ -45,9 +45,11 @@ pub fn translate(
     ensures counts { IfOk result (λ made. AreCounts store.old.props (tree form.now) made.counts) }
     ensures within { IfOk result (λ made. All (λ count. count ≤ limit) made.counts) }
     ensures whole { IfOk result (λ made. IsLeastOf store.new made.whole (λ w. meets store.old.props (tree form.now) w)) }
-    ensures least { IfOk result (λ made. IsLeastFor store.old.props (moves_of store.new made.whole) (λ w. meets store.old.props (tree form.now) w)) }
+    ensures least { IfOk result (λ made.
+        IsLeastFor store.old.props (moves_of store.new made.whole) (λ w. meets store.old.props (tree form.now) w)) }
     ensures whole_within { IfOk result (λ made. size_of made.whole ≤ limit) }
-    ensures size { IfOk result (λ made. HasClassCount store.old.props (λ w. meets store.old.props (tree form.now) w) (size_of made.whole)) }
+    ensures size { IfOk result (λ made.
+        HasClassCount store.old.props (λ w. meets store.old.props (tree form.now) w) (size_of made.whole)) }
     ensures same_traces { IfOk result (λ made. (f : Claim)
         → ((w : Word) → IsOver store.old.props w → f w ≡ meets store.old.props (tree form.now) w)
         → (m : Moves) → IsLeastFor store.old.props m f → AreTheSame store.old.props m (moves_of store.new made.whole)) }
