@@ -49,6 +49,7 @@ pub struct PacedOutput<'a, W: Write + Drop> {
 }
 
 impl<'a, W: Write + Drop> PacedOutput<'a, W> {
+    /// An output whose writes wait in what is held.
     pub fn new(held: &'a HeldOutput<W>) -> Self {
         PacedOutput { held }
     }
@@ -73,6 +74,7 @@ pub struct PacedInput<'a, R, W: Write + Drop> {
 }
 
 impl<'a, R, W: Write + Drop> PacedInput<'a, R, W> {
+    /// An input that reads on only when nothing waits.
     pub fn new(reader: R, held: &'a HeldOutput<W>) -> Self {
         PacedInput { reader, held }
     }
@@ -94,6 +96,7 @@ pub struct PacedMessages<'a, E, W: Write + Drop> {
 }
 
 impl<'a, E, W: Write + Drop> PacedMessages<'a, E, W> {
+    /// Messages that come after all that waits.
     pub fn new(writer: E, held: &'a HeldOutput<W>) -> Self {
         PacedMessages { writer, held }
     }

@@ -15,7 +15,7 @@ use Rattle.bes_io.specs.declared.lines.LineFault.TheVariants.{ReadFault, LineToo
 use Rattle.bes_io.proofs.Finding.{not_end, not_fault, contained, contains-lf, end-empty}
 
 -- bytes whose text is all of them hold no LF
-holds-none : (held : List ℕ) → length held ≤ text_len held → Contains held 10 → ⊥
+pub holds-none : (held : List ℕ) → length held ≤ text_len held → Contains held 10 → ⊥
 holds-none held all (k, lt, e) = omega (arith, all, contained held k lt e)
 
 -- undecided bytes may be the front of a line

@@ -6,3 +6,4 @@ pub mod FileLemmas
 pub mod LineFacts
 pub mod LinesLemmas
 pub mod HeldFacts
+pub mod Bits

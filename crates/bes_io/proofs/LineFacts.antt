@@ -1,5 +1,5 @@
 -- Facts from outside that hold the definitions: the lines are those of Rust's `str::lines`, and when a count rose.
-use Rattle.std.proofs.Common.{◌≡◌, ℕ, ◌+◌, ◌<◌, ◌≤◌, ◌^◌, ◌-◌, ◌⊎◌, ◌∷◌, List, [], length, arith, sym, refl, ◌∙◌, ap, cond, nat_lt, nat_eq, true, false, Bool, inl, inr}
+use Rattle.std.proofs.Common.{◌≡◌, ℕ, ◌+◌, ◌<◌, ◌≤◌, ◌-◌, ◌∷◌, List, [], length, arith, sym, refl, ◌∙◌, ap, cond, nat_lt, nat_eq, true, false, Bool}
 use Rattle.std.proofs.lemmas.Grind.{common_steps}
 use Rattle.std.proofs.lemmas.Bool.Decides.{nat_tests}
 use Rattle.std.proofs.lemmas.List.{drop_all}
@@ -8,7 +8,6 @@ use Rattle.std.proofs.lemmas.List.Splits.{slice_split_first, slice_split_none, l
 use Rattle.std.specs.List.{before_first, after_first, slice_split}
 use Rattle.std.specs.Str.Lines.{strip_carriage_return, lines_of_parts, lines}
 use Rattle.bes_io.specs.Bytes.{is_lf, text_len}
-use Rattle.bes_io.specs.Causes.{Rose}
 use Rattle.bes_io.specs.Reader.{first_line, line_len}
 use Rattle.bes_io.specs.Lines.{Stop, at_end, HasLines, ended, faulty, line}
 use Rattle.bes_io.proofs.Finding.{end-empty, line-some}

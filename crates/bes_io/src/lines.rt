@@ -1,5 +1,5 @@
 //! The lines of a source.
-ghost use Rattle.std.specs.Prelude.{◌≡◌, ℕ, ◌+◌, ◌-◌, ◌<◌, ◌≤◌, List, [], ◌∷◌, ◌++◌, length, drop, Option, Some, None, Result, IsSome, IfOk, IfSome, OnOk, OnErr, Contains, take};
+ghost use Rattle.std.specs.Prelude.{◌≡◌, ℕ, ◌+◌, ◌-◌, ◌<◌, ◌≤◌, List, [], length, drop, Option, Some, None, Result, IsSome, IfOk, OnErr, Contains, take};
 ghost use Rattle.std.specs.Str.Lines.{strip_carriage_return};
 ghost use Rattle.std.specs.Io.{StartsWith};
 ghost use Rattle.bes_io.specs.Bytes.{is_lf, text_len};
@@ -114,7 +114,7 @@ fn remove_front(buffer: &mut ArrayVec<u8, 4097>, n: usize)
 }
 
 impl LineReader {
-    ghost use Rattle.std.specs.Prelude.{Ok, Err, OnSome, IfNone, IsNone};
+    ghost use Rattle.std.specs.Prelude.{Ok, Err};
     ghost use Rattle.bes_io.specs.Causes.{HasCause};
     ghost use Rattle.bes_io.specs.Steps.{decided, settled, closed, holding};
     ghost use Rattle.bes_io.specs.Reader.{fresh, allowed, input, next_of, Finds, HasReadCause, HeldTells, StandsAfter, IsStopped, Repeats};

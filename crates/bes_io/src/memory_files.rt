@@ -1,5 +1,5 @@
 //! Files over memory.
-ghost use Rattle.std.specs.Prelude.{◌≡◌, ℕ, ◌+◌, ◌-◌, ◌^◌, ◌<◌, ◌≤◌, ◌↔◌, List, [], ◌∷◌, ◌++◌, length, take, min, Option, Some, None, Err, IfOk, IsErr, OnOk, OnErr, IsTrue, Contains, AllPairs, ◌≢◌, vec_len};
+ghost use Rattle.std.specs.Prelude.{◌≡◌, ◌+◌, ◌-◌, ◌<◌, ◌≤◌, [], ◌++◌, length, min, Option, Some, None, Err, IfOk, OnOk, AllPairs, ◌≢◌, vec_len};
 ghost use Rattle.std.specs.Option.{option_copied};
 ghost use Rattle.bes_io.specs.Streams.{ReadsFile, failure};
 ghost use Rattle.bes_io.specs.Forms.{file_at, counted, FilesFail};

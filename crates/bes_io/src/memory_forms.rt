@@ -1,5 +1,5 @@
 //! Sources and sinks over memory, for tests and for callers that have the bytes. `memory_files` has the files.
-ghost use Rattle.std.specs.Prelude.{◌≡◌, ℕ, ◌+◌, ◌-◌, ◌^◌, ◌<◌, ◌≤◌, ◌↔◌, List, [], ◌++◌, length, take, drop, min, Option, Some, IfOk, IsErr, OnOk, OnErr, IsTrue, Contains};
+ghost use Rattle.std.specs.Prelude.{◌≡◌, ◌+◌, ◌-◌, ◌^◌, ◌<◌, ◌≤◌, ◌↔◌, [], ◌++◌, length, take, drop, min, Some, IfOk, IsErr, OnErr};
 ghost use Rattle.bes_io.specs.Causes.{HasCause};
 ghost use Rattle.bes_io.specs.Streams.{Takes, Puts};
 ghost use Rattle.bes_io.specs.Forms.{SourceFails, given, counted, SinkFails, added_partly};

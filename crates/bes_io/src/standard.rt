@@ -1,6 +1,6 @@
 //! The real outside: standard input and output, and the file system. What a reader or writer of `std` told is passed on by
 //! `reads` and `writes`; these three tell no content, so there what `std` does is trusted.
-ghost use Rattle.std.specs.Prelude.{◌≡◌, ℕ, ◌≤◌, ◌<◌, length, List, [], ◌∷◌, ◌++◌, Option, None, IfOk, OnOk, vec_len};
+ghost use Rattle.std.specs.Prelude.{◌≡◌, ◌≤◌, ◌<◌, length, [], ◌++◌, IfOk, OnOk, vec_len};
 ghost use Rattle.std.specs.Str.{IsUtf8};
 ghost use Rattle.std.specs.Io.KnownBytes.{ReadConsumes, Appends};
 ghost use Rattle.bes_io.specs.Causes.{HasCause};

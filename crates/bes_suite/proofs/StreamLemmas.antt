@@ -1,5 +1,5 @@
 -- The line at the front of some bytes, whatever comes after it.
-use Rattle.std.proofs.Common.{◌≡◌, ℕ, ◌+◌, ◌-◌, ◌<◌, ◌≤◌, ◌∷◌, inl, inr, List, [], ◌++◌, length, take, drop, get_or, arith, sym, refl, ◌∙◌, ap, subst, cond, nat_lt, nat_eq, min, true, false, Bool, Option, Ok, Err, Contains, length-append, append_assoc}
+use Rattle.std.proofs.Common.{◌≡◌, ℕ, ◌+◌, ◌-◌, ◌<◌, ◌≤◌, ◌∷◌, inl, inr, List, [], ◌++◌, length, take, drop, get_or, arith, sym, refl, ◌∙◌, ap, subst, cond, nat_lt, nat_eq, min, true, false, Bool, Option, Ok, Err, length-append, append_assoc}
 use Rattle.std.proofs.lemmas.Grind.{common_steps}
 use Rattle.std.proofs.lemmas.Bool.{cases_lt}
 use Rattle.std.proofs.lemmas.Bool.Decides.{nat_tests}
@@ -16,12 +16,9 @@ use Rattle.bes_io.specs.declared.lines.LineFault.TheVariants.{ReadFault, LineToo
 use Rattle.bes_io.specs.declared.lines.Phase.{Phase}
 use Rattle.bes_io.specs.declared.lines.Phase.TheVariants.{Reading, Closed, StoppedAtLine, StoppedAtInput}
 use Rattle.bes_io.proofs.Deciding.{text-append_more}
-use Rattle.bes_io.proofs.Finding.{contained, line-some}
+use Rattle.bes_io.proofs.Finding.{line-some}
+use Rattle.bes_io.proofs.HeldFacts.{holds-none}
 use Rattle.bes_suite.specs.Streams.{IsOneLine}
-
--- bytes whose text is all of them have no LF
-pub lf-free : (text : List ℕ) → length text ≤ text_len text → Contains text 10 → ⊥
-lf-free text all (k, lt, e) = omega (arith, all, contained text k lt e)
 
 lf-is : (x : ℕ) → is_lf x ≡ true → x ≡ 10
 lf-is x e = grind (arith, nat_tests)
@@ -136,7 +133,7 @@ module _ (old new : Reader) (bytes : List ℕ) (left : Option (List ℕ)) (taken
       record {
         needed = text ++ 10 ∷ [];
         split = split ∙ sym (append_assoc text (10 ∷ []) after);
-        one = inl (text, refl, lf-free text free);
+        one = inl (text, refl, holds-none text free);
         whole = λ going. (text, refl);
         alone = subst (λ bs. HasLines (allowed old) bs (first_line bytes ∷ []) at_end) (append-nil (text ++ 10 ∷ [])) (cut [] [] at_end (ended refl));
         cut = λ going more lines stop has. cut more lines stop (subst (λ n. HasLines n more lines stop) (fewer ∙ ap (λ n. allowed old - n) size) has);
@@ -151,7 +148,7 @@ module _ (old new : Reader) (bytes : List ℕ) (left : Option (List ℕ)) (taken
       record {
         needed = bytes;
         split = sym (append-nil bytes) ∙ ap (λ bs. bytes ++ bs) (sym nil);
-        one = inr (λ e. absurd (omega (arith, line-some (allowed old) bytes (sym found-here), ap length e)), lf-free bytes none, nil);
+        one = inr (λ e. absurd (omega (arith, line-some (allowed old) bytes (sym found-here), ap length e)), holds-none bytes none, nil);
         whole = λ going. cc;
         alone = line found-here (ended (ap (next_of (allowed old - line_len bytes)) nil));
         cut = λ going. cc;

@@ -1,6 +1,6 @@
 -- Each word has one verdict, each admitted line a letter.
-use Rattle.std.proofs.Common.{◌≡◌, ◌≢◌, ℕ, zero, suc, ◌<◌, ◌^◌, ◌==◌, ◌&&◌, List, [], ◌++◌, length, Bool, true, false, refl, sym, ◌∙◌, ap, arith, inl, inr, ◌⊎◌, Option, Some, None}
-use Rattle.std.proofs.lemmas.Bool.{cases_eq, cases_Bool, lt-ltb}
+use Rattle.std.proofs.Common.{◌≡◌, ℕ, ◌<◌, ◌^◌, ◌==◌, ◌&&◌, List, [], ◌++◌, length, Bool, true, false, refl, sym, ◌∙◌, ap, inl, inr, ◌⊎◌, Option, Some, None}
+use Rattle.std.proofs.lemmas.Bool.{cases_Bool, lt-ltb}
 use Rattle.std.proofs.lemmas.List.{append-nil}
 use Rattle.bes_io.specs.Letter.{has}
 use Rattle.forms.specs.Word.{Word, Claim, IsOver}
@@ -11,6 +11,7 @@ use Rattle.automata.specs.Moves.{location_after}
 use Rattle.automata.specs.Table.{size_of, mark_of, row_of, moves_of}
 use Rattle.automata.proofs.Letters.{spelt, spelt-less, spelt-truth}
 use Rattle.automata.proofs.Words.{over-nil, location_after-within}
+use Rattle.monitor.proofs.EventLemmas.{one_value_or_other}
 use Rattle.monitor.specs.Configuration.{Configuration, IsReady, IsClaimOf}
 use Rattle.monitor.proofs.EventLemmas.{HasVerdict, IsSettled, at_location, perm_true, perm_false, temp_true, temp_false}
 use Rattle.spec_reader.specs.Event.{IsEventOf, event_fault, is_on, pieces}
@@ -39,18 +40,6 @@ module _ (p : ℕ) (f : Claim) (w : Word) where
   one-verdict TempFalse PermFalse h k = let a = k h.1.0 h.1.1 in let b = h.1.2 in cc
   one-verdict TempFalse TempTrue h k = let a = h.0 in let b = k.0 in cc
   one-verdict TempFalse TempFalse h k = refl
-
--- a function has one value below n, or another somewhere
-one_value_or_other : (f : ℕ → ℕ) (x n : ℕ) → ((b : ℕ) → b < n → f b ≡ x) ⊎ ((b : ℕ) × (b < n) × (f b ≢ x))
-one_value_or_other f x zero = inl (λ b h. absurd (omega (arith, h)))
-one_value_or_other f x (suc n) =
-    elim (one_value_or_other f x n) [
-      | inl e ↦ elim (cases_eq (f n) x) [
-        | inl q ↦ inl (λ b h. elim (cases_eq b n) [ inl z ↦ rw (z) q | inr z ↦ e b (omega (arith, h, z)) ])
-        | inr q ↦ inr (n, omega arith, q)
-      ]
-      | inr r ↦ inr (r.0, omega (arith, r.1), r.2)
-    ]
 
 -- all letters lead from the location to itself, or not
 settled_or_not : (s : Diagrams) (m : Configuration) → IsReady s m → IsSettled s m ⊎ (IsSettled s m → ⊥)

@@ -6,7 +6,6 @@ ghost use Rattle.bes_io.specs.Causes.{HasCause};
 ghost use Rattle.bes_io.specs.Streams.{Puts};
 ghost use Rattle.monitor.specs.Verdicts.{verdict_of};
 ghost use Rattle.monitor.specs.Configuration.{IsReady};
-ghost use Rattle.bes_suite.specs.Endings.{IsBeforeInput};
 ghost use Rattle.bes_suite.specs.Monitoring.{MonitorAnswers, IsFormulaWithinLimit, AreWithin, IsMonitored, verdict_line, ending_of as ending_of_verdict};
 ghost use Rattle.bes_suite.specs.Limits.{most_classes};
 ghost use Rattle.bes_suite.specs.OpenedMonitor.{IsOpened, ending_after};

@@ -1,6 +1,6 @@
 //! The command `translate`.
 ghost use Rattle.std.specs.Prelude.{◌≡◌, ◌<◌, ◌^◌, ℕ, List, length, Option, MatchResult};
-ghost use Rattle.forms.specs.Tree.{Formula, tree, nodes};
+ghost use Rattle.forms.specs.Tree.{tree, nodes};
 ghost use Rattle.forms.specs.Proper.{IsProper};
 ghost use Rattle.translate.specs.Counting.{IfTooMany, IsFirstOver};
 ghost use Rattle.bes_suite.specs.Limits.{most_classes};

@@ -1,13 +1,13 @@
 -- What the top of a diagram in a canonical store says of it.
-use Rattle.std.proofs.Common.{◌≡◌, ℕ, ◌<◌, ◌≤◌, Bool, if◌then◌else◌, ◌∙◌, sym, arith, Option, Some, refl, ◌⊎◌, inl, inr}
+use Rattle.std.proofs.Common.{◌≡◌, ℕ, ◌<◌, ◌≤◌, Bool, if◌then◌else◌, ◌∙◌, sym, arith, Some, refl, ◌⊎◌, inl, inr}
 use Rattle.std.proofs.lemmas.Bool.{cases_lt}
 use Rattle.diagrams.specs.declared.top.Id.{Id}
 use Rattle.diagrams.specs.declared.top.Look.{Look}
 use Rattle.diagrams.specs.declared.top.Look.TheVariants.{Terminal, Node}
-use Rattle.diagrams.specs.Tree.{Assignment, AllVars}
+use Rattle.diagrams.specs.Tree.{AllVars}
 use Rattle.diagrams.specs.Eval.{Diagrams, top_of, tree, eval, DependsOn}
 use Rattle.diagrams.specs.Live.{IsLive, StandsAbove, IsCanonical}
-use Rattle.diagrams.specs.Expansion.{IsExpansion, ExpandsAs}
+use Rattle.diagrams.specs.Expansion.{ExpandsAs}
 use Rattle.diagrams.proofs.Canon.{value_at-agree, all_vars_from_depends}
 use Rattle.diagrams.proofs.Meaning.{eval-node, eval-terminal, live-above, tree-above, tree-reduced, stands_from_depends}
 

@@ -14,7 +14,7 @@ use Rattle.diagrams.proofs.Canon.{value_at-agree}
 use Rattle.diagrams.proofs.Meaning.{tree-reduced}
 use Rattle.diagrams.proofs.Expansion.{vars_below}
 use Rattle.diagrams.proofs.LetterBits.{own_low, own_high, later_same}
-use Rattle.diagrams.proofs.Windows.{starts_below, starts_zero, IsWindow, window_empty, window_constant, window_later, window_low, window_high}
+use Rattle.diagrams.proofs.Windows.{if-true, if-false, starts_below, starts_zero, IsWindow, window_empty, window_constant, window_later, window_low, window_high}
 use Rattle.diagrams.proofs.Firsts.{AreFirsts, IsFirst, with_new-append, with_new-twice, firsts}
 
 -- the values at the numbers of so many variables from v on, in order
@@ -93,12 +93,6 @@ places_halves to n v xs ys t e len low high l h =
           ∙ ap (λ i. value_at t (letter_truth to i)) same
     ]
 
-if_true : (b : Bool) (x y : ℕ) → b ≡ true → (if b then x else y) ≡ x
-if_true b x y e = rw e refl
-
-if_false : (b : Bool) (x y : ℕ) → b ≡ false → (if b then x else y) ≡ y
-if_false b x y e = rw e refl
-
 -- the value at a number
 pub places : (to n v : ℕ) (t : Tree) → IsWindow to n v t → Places to n v t
 places to zero v (Constant x) w zero h = refl
@@ -116,9 +110,9 @@ places to (suc n) v (Branch u lo hi) w l h =
           ap (λ ys. get_or ys l 0) (if_same v u _ _ e)
           ∙ (rw (← e)
           (places_halves to n v (values n (suc v) lo) (values n (suc v) hi) (Branch v lo hi) g.end (length-values n (suc v) lo)
-          (λ i k. places to n (suc v) lo z i k ∙ sym (if_false (letter_truth to i v) (value_at hi (letter_truth to i)) (value_at lo (letter_truth to i)) (own_low to n v i g.end k)))
+          (λ i k. places to n (suc v) lo z i k ∙ sym (if-false (letter_truth to i v) (value_at hi (letter_truth to i)) (value_at lo (letter_truth to i)) (own_low to n v i g.end k)))
           (λ i k. places to n (suc v) hi o i k ∙ sym (high_value to n v i hi g.end o)
-          ∙ sym (if_true (letter_truth to (2 ^ n + i) v) (value_at hi (letter_truth to (2 ^ n + i))) (value_at lo (letter_truth to (2 ^ n + i))) (own_high to n v i g.end k)))
+          ∙ sym (if-true (letter_truth to (2 ^ n + i) v) (value_at hi (letter_truth to (2 ^ n + i))) (value_at lo (letter_truth to (2 ^ n + i))) (own_high to n v i g.end k)))
           l h))
       | inr (inl k) ↦
           let z = window_later to n v u lo hi k w in

@@ -1,12 +1,13 @@
 -- What the ids of a canonical store mean.
 use Rattle.std.proofs.Common.{◌≡◌, ℕ, zero, suc, ◌<◌, ◌≤◌, ◌+◌, if◌then◌else◌, refl, sym, ◌∙◌, ap, arith, IsSome, Option, Some, None, Result, IfOk}
+use Rattle.std.specs.Prelude.{◌==◌}
 use Rattle.std.proofs.lemmas.Result.{IfOk-weaker}
 use Rattle.diagrams.specs.declared.top.Id.{Id}
 use Rattle.diagrams.specs.declared.top.Look.{Look}
 use Rattle.diagrams.specs.declared.top.Look.TheVariants.{Terminal, Node}
 use Rattle.diagrams.specs.Tree.{Tree, Constant, Branch, Assignment, IsAbove, IsReduced}
 use Rattle.diagrams.specs.Branch.{split_value}
-use Rattle.diagrams.specs.Eval.{Diagrams, top_of, tree_from, tree_to, limit, tree, eval, DependsOn, literal_value}
+use Rattle.diagrams.specs.Eval.{Diagrams, top_of, tree_from, tree_to, limit, tree, eval, is_one, DependsOn, literal_value}
 use Rattle.diagrams.specs.Live.{IsLive, IsTopAbove, StandsAbove, IsCanonical, Extends, Keeps, Means, IsTruth}
 use Rattle.diagrams.proofs.Canon.{canonical, above_from_depends}
 
@@ -181,6 +182,10 @@ tree-lasts s n c d x i h = lasts_at s n c d x (tree s i) i (top_of s i) refl h r
 pub eval-lasts : (s n : Diagrams) → IsCanonical s → IsCanonical n → Extends s n → (i : Id) → IsLive s i → (a : Assignment) → eval n i a ≡ eval s i a
 unfolding eval
 eval-lasts s n c d x i h a = rw (tree-lasts s n c d x i h)
+
+-- a live diagram is 1 at the same assignments in a grown store
+pub is_one-lasts : (s n : Diagrams) → Keeps s n → (i : Id) → IsLive s i → (a : Assignment) → is_one n i a ≡ is_one s i a
+is_one-lasts s n k i h a = ap (λ x. x == 1) (eval-lasts s n k.was k.now k.extends i h a)
 
 -- a live id has a top
 pub live_some : (o : Option Look) → IsSome o → (n : Look) × (o ≡ Some n)

@@ -1,5 +1,5 @@
 -- The cubes of a tree.
-use Rattle.std.proofs.Common.{◌≡◌, ℕ, zero, suc, ◌<◌, ◌≤◌, ◌+◌, ◌-◌, arith, Bool, true, false, if◌then◌else◌, refl, sym, ◌∙◌, ap, subst, ◌⊎◌, inl, inr, List, [], ◌∷◌, ◌++◌, map, length, eqb, append_assoc, append-nil, length-append, replicate, get_or, Some}
+use Rattle.std.proofs.Common.{◌≡◌, ℕ, zero, suc, ◌<◌, ◌≤◌, ◌+◌, ◌-◌, arith, true, false, if◌then◌else◌, refl, sym, ◌∙◌, ap, subst, ◌⊎◌, inl, inr, List, [], ◌∷◌, ◌++◌, map, length, eqb, append_assoc, length-append, replicate, get_or, Some}
 use Rattle.std.specs.Prelude.{◌==◌, slice_set}
 use Rattle.std.proofs.lemmas.Bool.{cases_lt, cases_order}
 use Rattle.std.proofs.lemmas.Bool.Decides.{nat_tests}
@@ -8,11 +8,11 @@ use Rattle.std.proofs.Math.Seq.{set-append_seam}
 use mathlib.Core.Path.{fun_ext}
 use Rattle.diagrams.specs.declared.top.Id.{Id}
 use Rattle.diagrams.specs.declared.cubes.Cube.{Cube}
-use Rattle.diagrams.specs.Tree.{Tree, Constant, Branch, Assignment, put, value_at, IsReduced, AllVars}
+use Rattle.diagrams.specs.Tree.{Tree, Constant, Branch, value_at, IsReduced, AllVars}
 use Rattle.diagrams.specs.declared.top.Look.TheVariants.{Terminal, Node}
 use Rattle.diagrams.specs.Eval.{Diagrams, top_of, tree, eval, DependsOn}
 use Rattle.diagrams.specs.Live.{IsLive, IsCanonical}
-use Rattle.diagrams.specs.Cubes.{IsFree, lead, AreCubesOf, cube_text, printed_cube, AreCubes, painted}
+use Rattle.diagrams.specs.Cubes.{IsFree, lead, AreCubesOf, cube_text, AreCubes, painted}
 use Rattle.diagrams.proofs.Canon.{low, high, value_at-put, canonical, tree_size}
 use Rattle.diagrams.proofs.Meaning.{tree-node, tree-terminal, tree-reduced, live-above}
 use Rattle.diagrams.proofs.Expansion.{vars_from_depends}

@@ -15,7 +15,7 @@ use Rattle.diagrams.specs.Folded.{AgreeOutside}
 use Rattle.diagrams.specs.Picked.{number_of, IsLeastNumber, is_never, first_number}
 use Rattle.diagrams.proofs.Canon.{put-same, put-ne, low, high, tree_size}
 use Rattle.diagrams.proofs.Meaning.{tree-node, tree-terminal, tree-reduced, tree-lasts, live-above}
-use Rattle.diagrams.proofs.Windows.{Starts, starts_above, IsWindow, window_empty, window_constant, window_later, window_low, window_high}
+use Rattle.diagrams.proofs.Windows.{if-true, if-false, Starts, starts_above, IsWindow, window_empty, window_constant, window_later, window_low, window_high}
 use Rattle.diagrams.proofs.Transformed.{IsLocal, down}
 
 -- the variables of a tree that starts at `from`
@@ -65,12 +65,6 @@ bound_false p x y m true b f h e = absurd (f refl)
 bound_false p x y m false false f h e = omega arith
 bound_false p x y m false true f h e = absurd (cc)
 
-value_true : (b : Bool) (x y : ℕ) → b ≡ true → (if b then x else y) ≡ x
-value_true b x y e = rw e refl
-
-value_false : (b : Bool) (x y : ℕ) → b ≡ false → (if b then x else y) ≡ y
-value_false b x y e = rw e refl
-
 least_own : (to n v : ℕ) (lo hi : Tree) → IsWindow to (suc n) v (Branch v lo hi) → (b : Assignment) → value_at (Branch v lo hi) b ≡ 1
     → (value_at lo b ≡ 1 → first_number to lo ≤ number_of b n (suc v)) → (value_at hi b ≡ 1 → first_number to hi ≤ number_of b n (suc v))
     → first_number to (Branch v lo hi) ≤ number_of b (suc n) v
@@ -81,9 +75,9 @@ least_own to n v lo hi h b e below_lo below_hi =
     (elim (cases_Bool (b v)) [
       | inl t ↦
           bound_true (2 ^ n) (first_number to hi) (first_number to lo) (number_of b n (suc v)) (is_never lo) (b v)
-          (λ d. below_hi (sym (value_true (b v) (value_at hi b) (value_at lo b) t) ∙ e)) hh hl t
+          (λ d. below_hi (sym (if-true (b v) (value_at hi b) (value_at lo b) t) ∙ e)) hh hl t
       | inr f ↦
-          let one : value_at lo b ≡ 1 = sym (value_false (b v) (value_at hi b) (value_at lo b) f) ∙ e in
+          let one : value_at lo b ≡ 1 = sym (if-false (b v) (value_at hi b) (value_at lo b) f) ∙ e in
           bound_false (2 ^ n) (first_number to hi) (first_number to lo) (number_of b n (suc v)) (is_never lo) (b v)
           (λ d. let z = never_value lo b d in absurd (cc)) (below_lo one) f
     ])
@@ -132,8 +126,8 @@ takes_low to n v lo hi a e never x =
     let f = agree_own to v a x.0 false x.1 in (
       x.0,
       agree_wider to v a x.0 false (omega arith) x.1,
-      value_false (x.0 v) (value_at hi x.0) (value_at lo x.0) f ∙ x.2,
-      number_false x.0 n v f ∙ x.3 ∙ sym (value_false (is_never lo) (2 ^ (to - 1 - v) + first_number to hi) (first_number to lo) never),
+      if-false (x.0 v) (value_at hi x.0) (value_at lo x.0) f ∙ x.2,
+      number_false x.0 n v f ∙ x.3 ∙ sym (if-false (is_never lo) (2 ^ (to - 1 - v) + first_number to hi) (first_number to lo) never),
     )
 
 takes_high : (to n v : ℕ) (lo hi : Tree) (a : Assignment) → v + suc n ≡ to → is_never lo ≡ true → Takes to n (suc v) hi (put a v true) → Takes to (suc n) v (Branch v lo hi) a
@@ -141,11 +135,11 @@ takes_high to n v lo hi a e never x =
     let t = agree_own to v a x.0 true x.1 in (
       x.0,
       agree_wider to v a x.0 true (omega arith) x.1,
-      value_true (x.0 v) (value_at hi x.0) (value_at lo x.0) t ∙ x.2,
+      if-true (x.0 v) (value_at hi x.0) (value_at lo x.0) t ∙ x.2,
       number_true x.0 n v t
           ∙ ap (λ k. 2 ^ n + k) x.3
           ∙ ap (λ k. k + first_number to hi) (sym (weight to n v e))
-          ∙ sym (value_true (is_never lo) (2 ^ (to - 1 - v) + first_number to hi) (first_number to lo) never),
+          ∙ sym (if-true (is_never lo) (2 ^ (to - 1 - v) + first_number to hi) (first_number to lo) never),
     )
 
 one_constant : (x : ℕ) → x < 2 → (x == 0) ≡ false → x ≡ 1
@@ -264,8 +258,8 @@ number_step s c to f lo hi v e l vars =
       hi_vars = vs.2;
       lo_less = d.lo_less;
       hi_less = d.hi_less;
-      on = λ n. rw t (value_true (is_never (tree s lo)) _ _ n);
-      off = λ n. rw t (value_false (is_never (tree s lo)) _ _ n);
+      on = λ n. rw t (if-true (is_never (tree s lo)) _ _ n);
+      off = λ n. rw t (if-false (is_never (tree s lo)) _ _ n);
       fits = rw t (number_fits to v (tree s lo) (tree s hi) red vs);
     }
 

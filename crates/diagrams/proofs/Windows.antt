@@ -1,6 +1,14 @@
 -- Trees over the variables of a window: so many from v to before `to`.
-use Rattle.std.proofs.Common.{◌≡◌, ℕ, suc, ◌<◌, ◌≤◌, ◌+◌, arith}
+use Rattle.std.proofs.Common.{◌≡◌, ℕ, suc, ◌<◌, ◌≤◌, ◌+◌, arith, Bool, true, false, if◌then◌else◌, refl}
 use Rattle.diagrams.specs.Tree.{Tree, Constant, Branch, IsAbove, IsReduced, AllVars}
+
+-- what a choice gives where its test is true
+pub if-true : (b : Bool) (x y : ℕ) → b ≡ true → (if b then x else y) ≡ x
+if-true b x y e = rw e refl
+
+-- what a choice gives where its test is false
+pub if-false : (b : Bool) (x y : ℕ) → b ≡ false → (if b then x else y) ≡ y
+if-false b x y e = rw e refl
 
 -- the tree has no variable before v
 abbrev pub Starts : ℕ → Tree → Type 0

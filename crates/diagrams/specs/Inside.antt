@@ -1,5 +1,5 @@
 -- How the fields of a store mean it.
-use Rattle.std.specs.Prelude.{◌≡◌, ℕ, ◌≤◌, Bool, List, Option, Some, None, map}
+use Rattle.std.specs.Prelude.{◌≡◌, ◌≤◌, Bool, Some, map}
 use Rattle.std.specs.HashMap as hash
 use Rattle.diagrams.specs.declared.top.Id.{Id}
 use Rattle.diagrams.specs.declared.top.Look.{Look}

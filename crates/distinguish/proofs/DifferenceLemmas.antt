@@ -1,11 +1,8 @@
 -- The least letter at which two diagrams differ, by their parts.
-use Rattle.std.proofs.Common.{◌≡◌, ◌≢◌, ◌<◌, ◌≤◌, ◌+◌, ◌-◌, ◌*◌, ◌/◌, ◌^◌, ℕ, suc, true, false, if◌then◌else◌, refl, sym, ◌∙◌, ap, arith, inl, inr, Some}
-use Rattle.std.specs.Prelude.{nat_lt}
-use Rattle.std.specs.Int.{bit_at}
+use Rattle.std.proofs.Common.{◌≡◌, ◌≢◌, ◌<◌, ◌≤◌, ◌+◌, ◌-◌, ◌^◌, ℕ, suc, true, false, if◌then◌else◌, sym, ◌∙◌, ap, arith, inl, inr, Some}
 use Rattle.std.proofs.lemmas.Bool.{cases_lt, cases_eq}
-use Rattle.std.proofs.lemmas.Bool.Decides.{nat_tests}
-use Rattle.std.proofs.lemmas.Nat.{pow_pos, pow-add, pow_below}
-use Rattle.std.proofs.Math.Nat.{pow-suc, div-eq_of_lt, mul-add-div_right, mul-add-mod_self_right}
+use Rattle.std.proofs.lemmas.Nat.{pow_pos, pow_below}
+use Rattle.std.proofs.Math.Nat.{pow-suc}
 use Rattle.diagrams.specs.declared.top.Id.{Id}
 use Rattle.diagrams.specs.declared.top.Look.{Look}
 use Rattle.diagrams.specs.declared.top.Look.TheVariants.{Terminal, Node}

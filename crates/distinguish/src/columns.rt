@@ -1,5 +1,5 @@
 //! The marks after words, from each location.
-ghost use Rattle.std.specs.Prelude.{◌≡◌, ◌≢◌, ◌<◌, ◌≤◌, ◌^◌, ℕ, [], All, length, slice_index, IfOk};
+ghost use Rattle.std.specs.Prelude.{◌≡◌, ◌≢◌, ◌<◌, ◌≤◌, ◌^◌, ℕ, All, length, slice_index, IfOk};
 ghost use Rattle.automata.specs.Table.{size_of, mark_of, Fits, next_of};
 ghost use Rattle.distinguish.specs.Columns.{mark_in};
 

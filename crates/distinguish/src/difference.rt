@@ -1,5 +1,5 @@
 //! The least letter at which two diagrams differ.
-ghost use Rattle.std.specs.Prelude.{◌≡◌, ◌≢◌, ◌<◌, ◌-◌, ◌^◌, ℕ};
+ghost use Rattle.std.specs.Prelude.{◌≢◌, ◌<◌, ◌-◌, ◌^◌, ℕ};
 ghost use Rattle.diagrams.specs.Live.{StandsAbove};
 ghost use Rattle.distinguish.specs.Differences.{IsOverLetters, IsLeastDifference};
 

@@ -1,5 +1,5 @@
 //! The words of one letter more that tell locations of one block apart.
-ghost use Rattle.std.specs.Prelude.{◌≡◌, ◌≢◌, ◌<◌, ◌+◌, ℕ, List, slice_index, IfOk, OnOk};
+ghost use Rattle.std.specs.Prelude.{◌≢◌, ◌<◌, ◌+◌, IfOk, OnOk};
 ghost use Rattle.std.specs.List.Sorted.{IsStrictlySortedBy};
 ghost use Rattle.automata.specs.Table.{size_of, Fits};
 ghost use Rattle.diagrams.specs.Eval.{id_at};

@@ -1,5 +1,5 @@
 //! The telling words of an automaton.
-ghost use Rattle.std.specs.Prelude.{◌≡◌, ◌<◌, ◌≤◌, ◌+◌, ◌↔◌, ℕ, [], ◌∷◌, ◌++◌, false, true, IsTrue, EachIndex, All, length, map, slice_index, slice_index_or, IfOk, OnOk};
+ghost use Rattle.std.specs.Prelude.{◌≡◌, ◌<◌, ◌≤◌, ◌+◌, ◌↔◌, [], ◌∷◌, ◌++◌, false, true, IsTrue, EachIndex, All, length, map, slice_index, IfOk, OnOk};
 ghost use Rattle.diagrams.specs.Live.{Keeps};
 ghost use Rattle.automata.specs.Table.{size_of, Fits, moves_of};
 ghost use Rattle.minimise.specs.Divisions.{HaveTargets};

@@ -1,5 +1,5 @@
 ghost use Rattle.std.specs.Prelude.{◌≡◌, IfOk, true, false};
-ghost use Rattle.forms.specs.Tree.{Program, tree, program};
+ghost use Rattle.forms.specs.Tree.{tree, program};
 ghost use Rattle.forms.specs.Tree as formula;
 ghost use Rattle.form_reader.specs.Grammar as grammar;
 ghost use Rattle.form_reader.specs.Machine.{is_propositional};

@@ -1,5 +1,5 @@
 //! Formulas as texts that are read back as themselves.
-ghost use Rattle.std.specs.Prelude.{◌≡◌, ◌≤◌, ◌++◌, codes, IfOk, OnOk, length, Some, option_map};
+ghost use Rattle.std.specs.Prelude.{◌≡◌, ◌≤◌, ◌++◌, IfOk, OnOk, length, Some, option_map};
 ghost use Rattle.forms.specs.Tree.{tree, program, Star};
 ghost use Rattle.forms.specs.Parts as listed;
 ghost use Rattle.forms.specs.Proper.{IsProper, IsProperProgram};

@@ -128,6 +128,11 @@ stays-seq q r inward u = both_ways _ _ split join
     join : (q u u && r u u) ≡ true → reaches q (λ m. r m u) u ≡ true
     join h = let p = and_parts _ _ h in reaches-from q (λ m. r m u) u u whole p.0 p.1
 
+-- nothing leads further from the empty word
+pub reaches_further-empty : (q : WordRelation) (k : Claim) → reaches_further q k [] ≡ false
+unfolding reaches_further reaches
+reaches_further-empty q k = and_right (q [] []) false refl
+
 -- a star stays at every word
 pub stays-star : (q : WordRelation) (u : Word) → star q u u ≡ true
 stays-star q u = star-unrolled q u u ∙ or_left _ _ (same-refl u)

@@ -5,6 +5,7 @@ use Rattle.std.specs.List.{range_with_len}
 use Rattle.std.proofs.lemmas.List.Elements.{All-map}
 use Rattle.std.proofs.lemmas.List.FromFn.{get_or-map-range_with_len, length-map-range_with_len}
 use Rattle.std.proofs.lemmas.Bool.{cases_lt}
+use Rattle.bes_io.proofs.Bits.{same_bit}
 use Rattle.forms.specs.Word.{Word, IsOver}
 use Rattle.automata.specs.Moves.{Moves, location_after, mark_after}
 use Rattle.minimise.specs.Minimal.{IsLeast}
@@ -26,10 +27,6 @@ named p m l at =
       | inl h ↦ let r = l.reached at h in record { word = r.word; over = r.over; leads = λ _. r.leads }
       | inr h ↦ record { word = []; over = λ k d e. absurd (omega (arith, e)); leads = λ e. absurd (omega (arith, h, e)) }
     ]
-
--- numbers below 2 are equal where both are 1 or neither is
-pub same_bit : (x y : ℕ) → x < 2 → y < 2 → (x == 1) ≡ (y == 1) → x ≡ y
-same_bit x y h k e = grind (arith, h, k, e)
 
 -- what the claim says after a word is what the location's mark says
 claim-append : (p : ℕ) (m : Moves) (f : Claim) → Decides p m f → (u w : Word) → IsOver p u → IsOver p w

@@ -14,7 +14,7 @@ use Rattle.minimise.specs.Minimal.{IsLeast}
 use Rattle.monitor.specs.Configuration.{Configuration, IsReady, LeadsTo, IsClaimOf, IsVerdictAfter, IsMovedBy}
 
 -- a function has one value below n, or another somewhere
-one_value_or_other : (f : ℕ → ℕ) (x n : ℕ) → ((b : ℕ) → b < n → f b ≡ x) ⊎ ((b : ℕ) × (b < n) × (f b ≢ x))
+pub one_value_or_other : (f : ℕ → ℕ) (x n : ℕ) → ((b : ℕ) → b < n → f b ≡ x) ⊎ ((b : ℕ) × (b < n) × (f b ≢ x))
 one_value_or_other f x zero = inl (λ b h. absurd (omega (arith, h)))
 one_value_or_other f x (suc n) =
     elim (one_value_or_other f x n) [

@@ -8,13 +8,13 @@ use Rattle.diagrams.specs.declared.top.Look.TheVariants.{Terminal, Node}
 use Rattle.diagrams.specs.declared.memo.Memo.{Memo}
 use Rattle.diagrams.specs.Tree.{Assignment}
 use Rattle.diagrams.specs.Eval.{Diagrams, top_of, eval, tree, DependsOn}
-use Rattle.diagrams.specs.Live.{IsLive, IsCanonical, Keeps, Means, StandsAbove}
+use Rattle.diagrams.specs.Live.{IsLive, IsCanonical, Keeps, Means}
 use Rattle.diagrams.specs.Composed.{IsObligation}
 use Rattle.diagrams.specs.Eval.{id_at}
 use Rattle.diagrams.specs.Kept.{AllKept}
 use Rattle.diagrams.specs.Transformed.{same_id}
-use Rattle.diagrams.proofs.Canon.{value_at-agree, tree_size}
-use Rattle.diagrams.proofs.Meaning.{eval-lasts, live_lasts, eval-node, eval-terminal, live-above, tree-above, tree-reduced}
+use Rattle.diagrams.proofs.Canon.{tree_size}
+use Rattle.diagrams.proofs.Meaning.{eval-lasts, live_lasts, eval-node, eval-terminal, live-above}
 use Rattle.diagrams.proofs.Expansion.{depends_from_stands}
 use Rattle.diagrams.proofs.CofactorLemmas.{own}
 use Rattle.std.proofs.lemmas.Bool.{cases_Bool}

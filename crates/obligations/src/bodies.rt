@@ -1,5 +1,5 @@
 //! Diagrams for the bodies of the obligations that stand for locations.
-ghost use Rattle.std.specs.Prelude.{◌≡◌, ◌<◌, ◌+◌, ◌^◌, ℕ, length, IfOk};
+ghost use Rattle.std.specs.Prelude.{◌<◌, ◌+◌, ◌^◌, ℕ, length, IfOk};
 ghost use Rattle.diagrams.specs.Live.{IsCanonical, Keeps};
 ghost use Rattle.diagrams.specs.Kept.{AllKept};
 ghost use Rattle.diagrams.specs.Transformed.{same_id};

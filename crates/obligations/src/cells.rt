@@ -1,5 +1,5 @@
 //! Tables of obligations.
-ghost use Rattle.std.specs.Prelude.{◌≡◌, ℕ, ◌<◌, ◌^◌, ◌++◌, List, [], ◌∷◌, length, slice_set, IfOk, OnOk, OnErr};
+ghost use Rattle.std.specs.Prelude.{◌≡◌, ◌<◌, ◌^◌, ◌++◌, List, [], ◌∷◌, length, IfOk, OnOk, OnErr};
 ghost use Rattle.obligations.specs.Table.{ends_of, body_of, with_body};
 
 use bes_io::Memory;

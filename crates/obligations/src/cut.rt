@@ -1,7 +1,6 @@
 //! Rows from diagrams over propositions and obligations.
-ghost use Rattle.std.specs.Prelude.{◌≡◌, ◌<◌, ◌≤◌, ◌+◌, ℕ, length, IfOk};
-ghost use Rattle.diagrams.specs.Eval.{DependsOn};
-ghost use Rattle.diagrams.specs.Live.{IsLive, Keeps};
+ghost use Rattle.std.specs.Prelude.{◌<◌, IfOk};
+ghost use Rattle.diagrams.specs.Live.{Keeps};
 ghost use Rattle.diagrams.specs.Kept.{AllKept};
 ghost use Rattle.diagrams.specs.Transformed.{same_id};
 ghost use Rattle.obligations.specs.Value.{IsBody, IsClaim};

@@ -1,7 +1,7 @@
 //! The deterministic automaton of a claim over obligations.
 ghost use Rattle.std.specs.Prelude.{◌≡◌, ◌<◌, ℕ, List, length, IfOk};
 ghost use Rattle.diagrams.specs.Eval.{eval};
-ghost use Rattle.diagrams.specs.Live.{IsLive, Keeps};
+ghost use Rattle.diagrams.specs.Live.{Keeps};
 ghost use Rattle.diagrams.specs.Kept.{AllKept};
 ghost use Rattle.diagrams.specs.Transformed.{same_id};
 ghost use Rattle.diagrams.specs.Composed.{IsRightFor};

@@ -1,5 +1,5 @@
 //! The greatest simulation on the locations of an automaton, by striking out (Milner 1971; Henzinger, Henzinger and Kopke 1995).
-ghost use Rattle.std.specs.Prelude.{◌≡◌, ◌<◌, ◌≤◌, ℕ, true, false, IfOk, OnOk, OnErr};
+ghost use Rattle.std.specs.Prelude.{◌≡◌, ◌<◌, true, false, IfOk, OnOk, OnErr};
 ghost use Rattle.std.specs.HashSet as set;
 ghost use Rattle.automata.specs.Table.{size_of, Fits};
 ghost use Rattle.obligations.specs.Inclusion.{IsSimulation};

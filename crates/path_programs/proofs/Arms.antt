@@ -9,7 +9,7 @@ use Rattle.diagrams.specs.declared.top.Id.{Id}
 use Rattle.diagrams.specs.Tree.{Assignment}
 use Rattle.diagrams.specs.Eval.{Diagrams, is_one}
 use Rattle.diagrams.specs.Live.{IsLive, Keeps}
-use Rattle.diagrams.proofs.Meaning.{Keeps_trans, live_lasts}
+use Rattle.diagrams.proofs.Meaning.{Keeps_trans, live_lasts, is_one-lasts}
 use Rattle.automata.specs.Table.{Table, size_of, IsMeant}
 use Rattle.automata.proofs.Lasts.{meant_lasts}
 use Rattle.automata.proofs.Everywhere.{IsMeant-everywhere}
@@ -17,12 +17,12 @@ use Rattle.obligations.specs.declared.cells.Obligation.{Obligation}
 use Rattle.obligations.specs.Table.{missing, ends_of, body_of, with_body}
 use Rattle.obligations.specs.Value.{by_values, cell, holds, IsClaim, IsBody, FitsCells}
 use Rattle.obligations.specs.Followed.{HasFrom, StandsFor}
-use Rattle.obligations.proofs.Holds.{claim_lasts, body_lasts}
+use Rattle.obligations.proofs.Holds.{claim_lasts, body_lasts, body_wider}
 use Rattle.path_programs.specs.declared.lead.Lead.{Lead}
 use Rattle.path_programs.specs.Made.{truth_of, IsOneWhere}
 use Rattle.path_programs.specs.Growth.{HasGrown}
 use Rattle.path_programs.specs.Lead.{AreBodies, IsLead, IsRest, IsEither, IsInTurn}
-use Rattle.path_programs.proofs.Making.{test_lasts, one_same, one_lasts, one_body, claim_same, body_same, body_more}
+use Rattle.path_programs.proofs.Making.{one_same, one_lasts, one_body, claim_same, body_same}
 use Rattle.path_programs.proofs.Growing.{from_later, from_earlier, set-length, set-there, set-others}
 use Rattle.path_programs.proofs.Resting.{asked}
 use Rattle.path_programs.proofs.Leads.{leads-step, leads-test, leads-choice, leads-seq, leads-star}
@@ -31,8 +31,8 @@ use Rattle.path_programs.proofs.Conditions.{truth_of-joint, truth_of-same}
 -- the bodies of a lead in a later store, and with more obligations
 pub bodies_last : (s n : Diagrams) → Keeps s n → (count more : ℕ) (l : Lead) → count ≤ more → AreBodies s count l → AreBodies n more l
 bodies_last s n k count more l h b = record {
-  further = body_more n count more l.further h (body_lasts s n k count l.further b.further);
-  stays = body_more n count more l.stays h (body_lasts s n k count l.stays b.stays);
+  further = body_wider n count more l.further h (body_lasts s n k count l.further b.further);
+  stays = body_wider n count more l.stays h (body_lasts s n k count l.stays b.stays);
 }
 
 -- the diagrams of a step are bodies
@@ -44,7 +44,7 @@ bodies_step s0 s1 s2 s3 k1 k2 k3 f proper now later l o m z count claim =
     record {
       further = one_body s3 l.further g count
           (one_same s3 l.further (λ a. is_one s1 now a && is_one s1 later a) g (one_lasts s2 s3 k3 l.further (λ a. is_one s1 now a && is_one s1 later a) m)
-          (λ a. rw (o.value a, test_lasts s0 s1 k1 later claim.live a) refl))
+          (λ a. rw (o.value a, is_one-lasts s0 s1 k1 later claim.live a) refl))
           (λ a b same. rw (truth_of-same s0.props f proper a b (λ i h. same i (omega arith)), claim_same s0 count later claim a b (λ v h. let u : v < s0.props + count = h.1 in same v (omega arith))) refl);
       stays = one_body s3 l.stays (λ _. false) count z (λ a b same. refl);
     }
@@ -59,7 +59,7 @@ lead_step s0 s1 s2 s3 k1 k2 k3 f plain proper now later l o m z e live from c cl
     let t0 = Keeps_trans s0 s1 n k1 t1 in
     leads-step n d (length c) (λ w. sat n.props f w) later (claim_lasts s0 n t0 (length c) later claim) (truth_of f)
     (λ a w. truth_of-joint n.props f plain (rw t0.extends.props proper) a (cell n d w) w) l
-    (λ a. (one_lasts s2 n t2 l.further (λ a. is_one s1 now a && is_one s1 later a) m).value a ∙ rw (o.value a, sym (test_lasts s1 n t1 later (live_lasts s0 s1 k1.extends later live) a)) refl)
+    (λ a. (one_lasts s2 n t2 l.further (λ a. is_one s1 now a && is_one s1 later a) m).value a ∙ rw (o.value a, sym (is_one-lasts s1 n t1 later (live_lasts s0 s1 k1.extends later live) a)) refl)
     (λ a. (one_lasts s3 n k l.stays (λ _. false) z).value a) e
 
 -- a test stays where the obligation of the first location holds
@@ -98,9 +98,9 @@ lead_choice s1 s2 s3 c0 c1 c2 g k3 h p q later x y l ly lx by bx m = λ n d k fr
     (lx n d t2 (from_later (length c0) (length c1) c2 d h from))
     (ly n d t1 (from_earlier (length c0) c1 c2 d g.grows from))
     (λ a. (one_lasts s3 n k l.further (λ a. is_one s2 x.further a || is_one s2 y.further a) m.further).value a
-    ∙ rw (sym (test_lasts s2 n t2 x.further bx.further.live a), sym (test_lasts s2 n t2 y.further (live y.further by.further.live) a)) refl)
+    ∙ rw (sym (is_one-lasts s2 n t2 x.further bx.further.live a), sym (is_one-lasts s2 n t2 y.further (live y.further by.further.live) a)) refl)
     (λ a. (one_lasts s3 n k l.stays (λ a. is_one s2 x.stays a || is_one s2 y.stays a) m.stays).value a
-    ∙ rw (sym (test_lasts s2 n t2 x.stays bx.stays.live a), sym (test_lasts s2 n t2 y.stays (live y.stays by.stays.live) a)) refl)
+    ∙ rw (sym (is_one-lasts s2 n t2 x.stays bx.stays.live a), sym (is_one-lasts s2 n t2 y.stays (live y.stays by.stays.live) a)) refl)
     m.ends
 
 -- the diagrams of a sequence are bodies
@@ -135,9 +135,9 @@ lead_seq s1 s2 s3 s4 c0 c1 c2 c3 g2 g3 k4 h p q later next x y l ly rest lx by b
     (rest n d (goes n.props q) t2 (from_later (length c0) (length c1) c2 d h at2) second)
     x y l (lx n d t3 (from_later (length c0) (length c2) c3 d (omega arith) from)) second
     (λ a. (one_lasts s4 n k l.further (λ a. is_one s3 x.further a || is_one s3 x.stays a && is_one s3 y.further a) m.further).value a
-    ∙ rw (sym (test_lasts s3 n t3 x.further bx.further.live a), sym (test_lasts s3 n t3 x.stays bx.stays.live a), sym (test_lasts s3 n t3 y.further (live y.further by.further.live) a)) refl)
+    ∙ rw (sym (is_one-lasts s3 n t3 x.further bx.further.live a), sym (is_one-lasts s3 n t3 x.stays bx.stays.live a), sym (is_one-lasts s3 n t3 y.further (live y.further by.further.live) a)) refl)
     (λ a. (one_lasts s4 n k l.stays (λ a. is_one s3 x.stays a && is_one s3 y.stays a) m.stays).value a
-    ∙ rw (sym (test_lasts s3 n t3 x.stays bx.stays.live a), sym (test_lasts s3 n t3 y.stays (live y.stays by.stays.live) a)) refl)
+    ∙ rw (sym (is_one-lasts s3 n t3 x.stays bx.stays.live a), sym (is_one-lasts s3 n t3 y.stays (live y.stays by.stays.live) a)) refl)
     m.ends
 
 -- c1 is the table with the obligation j of a further turn, c2 after the path; then the body of j is set
@@ -159,7 +159,7 @@ lead_star s0 s1 s2 s3 k1 c0 c1 c2 g k3 j e one ends p later next x l live o lx s
     } in
     leads-star n d (goes n.props p) (holds n d later) (holds n d next) j
     (λ w. (one_lasts s1 n t1 next (λ a. a (s1.props + length c0) || is_one s0 later a) o).value (by_values n.props (cell n d w))
-    ∙ rw (asked s1.props n t1.extends.props d w (length c0), sym (test_lasts s0 n t0 later live (by_values n.props (cell n d w))), sym e) refl)
+    ∙ rw (asked s1.props n t1.extends.props d w (length c0), sym (is_one-lasts s0 n t0 later live (by_values n.props (cell n d w))), sym e) refl)
     x (lx n d t2 inner) (ap (λ o. o.ends) own ∙ was) (ap (λ o. o.body) own)
     l same_further (λ a. (one_lasts s3 n k l.stays (λ _. true) z).value a) true_end
 

@@ -10,7 +10,7 @@ use Rattle.forms.proofs.Further.{reaches-agree}
 use Rattle.diagrams.specs.declared.top.Id.{Id}
 use Rattle.diagrams.specs.Eval.{Diagrams, is_one}
 use Rattle.diagrams.specs.Live.{IsLive, Keeps}
-use Rattle.diagrams.proofs.Meaning.{Keeps_trans}
+use Rattle.diagrams.proofs.Meaning.{Keeps_trans, is_one-lasts}
 use Rattle.obligations.specs.declared.cells.Obligation.{Obligation}
 use Rattle.obligations.specs.Table.{missing, ends_of, body_of}
 use Rattle.obligations.specs.Value.{cell, holds, IsBody, FitsCells}
@@ -19,7 +19,7 @@ use Rattle.path_programs.specs.declared.lead.Lead.{Lead}
 use Rattle.path_programs.specs.Made.{IsOneWhere}
 use Rattle.path_programs.specs.Growth.{HasGrown}
 use Rattle.path_programs.specs.Lead.{Leads, AreBodies, IsLead}
-use Rattle.path_programs.proofs.Making.{test_lasts, one_same, one_body, body_same}
+use Rattle.path_programs.proofs.Making.{one_same, one_body, body_same}
 use Rattle.path_programs.proofs.Growing.{from_later, goes_on_add, entry-old, entry-new, grown_add, grown_same}
 use Rattle.path_programs.proofs.Resting.{holds-literal}
 use Rattle.path_programs.proofs.Leads.{cell-compiled}
@@ -30,7 +30,7 @@ pub whole_says : (s2 s3 s4 : Diagrams) → Keeps s2 s3 → Keeps s3 s4 → (l : 
     → IsOneWhere s4 body (λ a. is_one s2 l.further a || is_one s2 l.stays a && is_one s2 then a)
 whole_says s2 s3 s4 k3 k4 l then here body live h o =
     one_same s4 body (λ a. is_one s3 l.further a || is_one s3 here a) (λ a. is_one s2 l.further a || is_one s2 l.stays a && is_one s2 then a) o
-    (λ a. rw (test_lasts s2 s3 k3 l.further live a, h.value a) refl)
+    (λ a. rw (is_one-lasts s2 s3 k3 l.further live a, h.value a) refl)
 
 -- the body of the whole is one
 pub whole_body : (s2 s4 : Diagrams) → Keeps s2 s4 → (count : ℕ) (l : Lead) (then body : Id) → AreBodies s2 count l → IsBody s2 count then
@@ -62,9 +62,9 @@ compiled s0 s1 s2 s4 k1 k2 k4 c d e lc then lt x later l p fits b lead o added e
     ap (λ y. is_one s4 y.body a) new
     ∙ body.value a
     ∙ rw (
-      sym (test_lasts s2 s4 k4 l.further b.further.live a),
-      sym (test_lasts s2 s4 k4 l.stays b.stays.live a),
-      sym (test_lasts s2 s4 k4 (body_of d then) (fits then lt).live a),
+      sym (is_one-lasts s2 s4 k4 l.further b.further.live a),
+      sym (is_one-lasts s2 s4 k4 l.stays b.stays.live a),
+      sym (is_one-lasts s2 s4 k4 (body_of d then) (fits then lt).live a),
     ) (ap (λ y. is_one s4 l.further a || is_one s4 l.stays a && is_one s4 y.body a) (sym old)))
     word
     ∙ ap (λ q. reaches (goes q x) (holds s4 e later) word) p4

@@ -13,9 +13,8 @@ use Rattle.obligations.specs.declared.cells.Obligation.{Obligation}
 use Rattle.obligations.specs.Table.{missing, ends_of, body_of, with_body}
 use Rattle.obligations.specs.Value.{IsBody, FitsCells}
 use Rattle.obligations.specs.Followed.{HasFrom, GoesOn}
-use Rattle.obligations.proofs.Holds.{fits_cells_lasts}
+use Rattle.obligations.proofs.Holds.{fits_cells_lasts, body_wider}
 use Rattle.path_programs.specs.Growth.{HasGrown}
-use Rattle.path_programs.proofs.Making.{body_more}
 
 -- a table has its own obligations
 pub from_refl : (f : ℕ) (c : List Obligation) → HasFrom f c c
@@ -73,12 +72,12 @@ fits_add s c o f b j h =
       | inl t ↦
           let l : j < length c = grind (arith, nat_tests) in
           let more : length c ≤ length (c ++ o ∷ []) = omega arith in
-          subst P (sym (entry-old c o j l)) (body_more s (length c) (length (c ++ o ∷ [])) (body_of c j) more (f j l))
+          subst P (sym (entry-old c o j l)) (body_wider s (length c) (length (c ++ o ∷ [])) (body_of c j) more (f j l))
       | inr t ↦
           let g : length c ≤ j = grind (arith, nat_tests) in
           let u : j ≡ length c = omega arith in
           let x : slice_index_or (c ++ o ∷ []) j missing ≡ o = ap (λ i. slice_index_or (c ++ o ∷ []) i missing) u ∙ entry-new c o in
-          subst P (sym x) (body_more s (length c + 1) (length (c ++ o ∷ [])) o.body (omega arith) b)
+          subst P (sym x) (body_wider s (length c + 1) (length (c ++ o ∷ [])) o.body (omega arith) b)
     ]
 
 -- the same of a store and a table
@@ -87,7 +86,7 @@ grown_add s c n d e o p b q =
     let P : List Obligation → Type 0 = λ x. HasGrown s c n x in
     subst P (sym q) (record {
       keeps = p.keeps;
-      fits = fits_add n d o p.fits (body_more n (length d) (length d + 1) o.body (omega arith) b);
+      fits = fits_add n d o p.fits (body_wider n (length d) (length d + 1) o.body (omega arith) b);
       grows = from_earlier 0 c d (d ++ o ∷ []) p.grows (goes_on_add d o);
     })
 

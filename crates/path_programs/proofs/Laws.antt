@@ -1,10 +1,10 @@
 -- Claims that stand for where a relation leads further, and relations that are the same.
 use Rattle.std.proofs.Common.{◌≡◌, ℕ, zero, suc, ◌<◌, ◌≤◌, [], ◌∷◌, length, refl, sym, ◌∙◌, ap, inl, inr, arith, false, ◌⊎◌, nat_lt}
 use Rattle.std.specs.Prelude.{◌&&◌, ◌||◌}
-use Rattle.std.proofs.lemmas.Bool.{and_right, le-ltb}
+use Rattle.std.proofs.lemmas.Bool.{le-ltb}
 use Rattle.forms.specs.Word.{Word, Claim}
 use Rattle.forms.specs.Paths.{WordRelation, reaches, reaches_further, star}
-use Rattle.forms.proofs.Further.{IsSuffix-cases, reaches-agree, reaches_further-star, reaches-star_split}
+use Rattle.forms.proofs.Further.{IsSuffix-cases, reaches_further-empty, reaches-agree, reaches_further-star, reaches-star_split}
 
 -- what is further depends on the claim at shorter suffixes alone
 pub reaches_further-agree : (q : WordRelation) (f g : Claim) (u : Word) → ((v : Word) → length v < length u → f v ≡ g v) → reaches_further q f u ≡ reaches_further q g u
@@ -17,11 +17,6 @@ reaches_further-agree q f g u same =
         let no : nat_lt (length m) (length u) ≡ false = rw e (le-ltb (length u) (length u) (omega arith)) in
         rw no refl
     one m (inr l) = ap (λ b. nat_lt (length m) (length u) && b) (same m l)
-
--- no suffix is shorter than the empty word
-pub reaches_further-empty : (q : WordRelation) (k : Claim) → reaches_further q k [] ≡ false
-unfolding reaches_further reaches
-reaches_further-empty q k = and_right (q [] []) false refl
 
 -- a claim that asks for a turn, and then for itself or k, is where the star leads further
 pub star-reaches_further : (q : WordRelation) (k c : Claim) → c [] ≡ false → ((a : ℕ) (w : Word) → c (a ∷ w) ≡ reaches_further q (λ v. c v || k v) (a ∷ w)) → (u : Word) → c u ≡ reaches_further (star q) k u

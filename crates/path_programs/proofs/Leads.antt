@@ -4,7 +4,7 @@ use Rattle.std.specs.Prelude.{◌==◌, ◌&&◌, ◌||◌}
 use Rattle.forms.specs.Word.{Word, Claim, same}
 use Rattle.forms.specs.Paths.{WordRelation, one_step, reaches, reaches_further, star}
 use Rattle.forms.proofs.Leads.{IsInward}
-use Rattle.forms.proofs.Further.{reaches-split, reaches_further-step, reaches_further-test, reaches_further-choice, reaches_further-seq, stays-step, stays-test, stays-seq, stays-star}
+use Rattle.forms.proofs.Further.{reaches-split, reaches_further-step, reaches_further-test, reaches_further-choice, reaches_further-seq, stays-step, stays-test, stays-seq, stays-star, reaches_further-empty}
 use Rattle.diagrams.specs.declared.top.Id.{Id}
 use Rattle.diagrams.specs.Tree.{Assignment}
 use Rattle.diagrams.specs.Eval.{Diagrams, is_one}
@@ -14,7 +14,7 @@ use Rattle.obligations.specs.Value.{joint, by_values, cell, holds, IsClaim}
 use Rattle.obligations.proofs.Holds.{joint-obligations, by_values-obligations}
 use Rattle.path_programs.specs.declared.lead.Lead.{Lead}
 use Rattle.path_programs.specs.Lead.{truth_at, Leads}
-use Rattle.path_programs.proofs.Laws.{reaches_further-agree, reaches_further-empty, star-reaches_further}
+use Rattle.path_programs.proofs.Laws.{reaches_further-agree, star-reaches_further}
 
 -- what a claim says beside a letter is what it says of the word after it
 pub claim-beside : (s : Diagrams) (c : List Obligation) (count : ℕ) (f : Id) → IsClaim s count f → (letter : ℕ) (word : Word) → truth_at s c f letter word ≡ holds s c f word

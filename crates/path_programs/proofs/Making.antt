@@ -2,13 +2,14 @@
 use Rattle.std.proofs.Common.{◌≡◌, ℕ, zero, suc, ◌<◌, ◌≤◌, ◌+◌, Bool, true, false, if◌then◌else◌, refl, sym, ◌∙◌, ap, arith, min, max, Result, IfOk}
 use Rattle.std.specs.Prelude.{◌==◌, ◌&&◌, ◌||◌, not}
 use Rattle.std.proofs.lemmas.Result.{IfOk-weaker}
+use Rattle.bes_io.proofs.Bits.{same_bit}
 use Rattle.forms.specs.Operators.{agree}
 use Rattle.diagrams.specs.declared.top.Id.{Id}
 use Rattle.diagrams.specs.Tree.{Assignment}
 use Rattle.diagrams.specs.Eval.{Diagrams, DependsOn, eval, is_one}
 use Rattle.diagrams.specs.Live.{IsLive, IsTruth, Keeps, Means}
 use Rattle.diagrams.specs.Composed.{IsObligation}
-use Rattle.diagrams.proofs.Meaning.{eval-lasts, live_lasts}
+use Rattle.diagrams.proofs.Meaning.{eval-lasts, is_one-lasts, live_lasts}
 use Rattle.obligations.specs.Value.{IsClaim, IsBody}
 use Rattle.path_programs.specs.Made.{IsOneWhere}
 
@@ -97,32 +98,18 @@ one_same n id f g m e = record { live = m.live; truth = m.truth; value = λ a. m
 pub one_truth : (n : Diagrams) (id : Id) (f : Assignment → Bool) → IsOneWhere n id f → IsTruth n id
 one_truth n id f m = record { live = m.live; truth = m.truth }
 
--- whether a diagram is 1, in a later store
-pub test_lasts : (s n : Diagrams) → Keeps s n → (f : Id) → IsLive s f → (a : Assignment) → is_one n f a ≡ is_one s f a
-test_lasts s n k f l a = ap (λ x. x == 1) (eval-lasts s n k.was k.now k.extends f l a)
-
--- the same in a later store
+-- where a diagram is 1 in a later store
 pub one_lasts : (s n : Diagrams) → Keeps s n → (id : Id) (f : Assignment → Bool) → IsOneWhere s id f → IsOneWhere n id f
 one_lasts s n k id f m = record {
   live = live_lasts s n k.extends id m.live;
   truth = λ a. rw (eval-lasts s n k.was k.now k.extends id m.live a) (m.truth a);
-  value = λ a. test_lasts s n k id m.live a ∙ m.value a;
+  value = λ a. is_one-lasts s n k id m.live a ∙ m.value a;
 }
-
--- what a diagram depends on, by its function
-same_number : (x y : ℕ) → x < 2 → y < 2 → (x == 1) ≡ (y == 1) → x ≡ y
-same_number zero zero h k e = refl
-same_number zero (suc zero) h k e = cc
-same_number zero (suc (suc y)) h k e = absurd (omega arith)
-same_number (suc zero) zero h k e = cc
-same_number (suc zero) (suc zero) h k e = refl
-same_number (suc zero) (suc (suc y)) h k e = absurd (omega arith)
-same_number (suc (suc x)) y h k e = absurd (omega arith)
 
 -- it depends on what its function depends on
 pub one_over : (n : Diagrams) (id : Id) (f : Assignment → Bool) (P : ℕ → Type 0) → IsOneWhere n id f → ((a b : Assignment) → ((v : ℕ) → P v → a v ≡ b v) → f a ≡ f b)
     → DependsOn n id P
-one_over n id f P m h = λ a b same. same_number (eval n id a) (eval n id b) (m.truth a) (m.truth b) (m.value a ∙ h a b same ∙ sym (m.value b))
+one_over n id f P m h = λ a b same. same_bit (eval n id a) (eval n id b) (m.truth a) (m.truth b) (m.value a ∙ h a b same ∙ sym (m.value b))
 
 -- a body, by its function
 pub one_body : (n : Diagrams) (id : Id) (f : Assignment → Bool) (count : ℕ) → IsOneWhere n id f
@@ -150,10 +137,6 @@ body_truth s count f b = record { live = b.live; truth = b.truth }
 pub claim_truth : (s : Diagrams) (count : ℕ) (f : Id) → IsClaim s count f → IsTruth s f
 claim_truth s count f b = record { live = b.live; truth = b.truth }
 
--- more obligations
-pub body_more : (s : Diagrams) (count more : ℕ) (f : Id) → count ≤ more → IsBody s count f → IsBody s more f
-body_more s count more f h b = record { live = b.live; over = λ x y same. b.over x y (λ v l. same v (omega arith)); truth = b.truth }
-
 -- a claim over more obligations
 pub claim_more : (s : Diagrams) (count more : ℕ) (f : Id) → count ≤ more → IsClaim s count f → IsClaim s more f
 claim_more s count more f h b = record { live = b.live; over = λ x y same. b.over x y (λ v l. let u : v < s.props + count = l.1 in same v (l.0, omega arith)); truth = b.truth }
@@ -167,13 +150,13 @@ pub one_opposite : {E : Type 0} (r : Result Id E) (s m n : Diagrams) (f none : I
     → IfOk r (λ id. IsOneWhere n id (λ a. agree (is_one m f a) (is_one m none a))) → IfOk r (λ id. IsOneWhere n id (λ a. not (is_one s f a)))
 one_opposite r s m n f none k l z ok = IfOk-weaker r (λ id. IsOneWhere n id (λ a. agree (is_one m f a) (is_one m none a))) (λ id. IsOneWhere n id (λ a. not (is_one s f a)))
     (λ id o. one_same n id (λ a. agree (is_one m f a) (is_one m none a)) (λ a. not (is_one s f a)) o
-    (λ a. rw (test_lasts s m k f l a, z.value a) (agree-false (is_one s f a)))) ok
+    (λ a. rw (is_one-lasts s m k f l a, z.value a) (agree-false (is_one s f a)))) ok
 
 -- an operation on two diagrams, the first of which was made in an earlier store
 pub one_of_two : {E : Type 0} (r : Result Id E) (s m n : Diagrams) (f g : Id) (F G H : Assignment → Bool) (op : Bool → Bool → Bool) → Keeps s m → IsOneWhere s f F → IsOneWhere m g G
     → ((a : Assignment) → op (F a) (G a) ≡ H a) → IfOk r (λ id. IsOneWhere n id (λ a. op (is_one m f a) (is_one m g a))) → IfOk r (λ id. IsOneWhere n id H)
 one_of_two r s m n f g F G H op k p q e ok = IfOk-weaker r (λ id. IsOneWhere n id (λ a. op (is_one m f a) (is_one m g a))) (λ id. IsOneWhere n id H)
-    (λ id o. one_same n id (λ a. op (is_one m f a) (is_one m g a)) H o (λ a. rw (test_lasts s m k f p.live a, p.value a, q.value a) (e a))) ok
+    (λ id o. one_same n id (λ a. op (is_one m f a) (is_one m g a)) H o (λ a. rw (is_one-lasts s m k f p.live a, p.value a, q.value a) (e a))) ok
 
 -- in a later store its terminals are 0 and 1
 pub one_truth_later : (s m : Diagrams) (f : Id) (F : Assignment → Bool) → Keeps s m → IsOneWhere s f F → IsTruth m f

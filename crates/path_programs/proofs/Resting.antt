@@ -8,7 +8,7 @@ use Rattle.diagrams.specs.declared.top.Id.{Id}
 use Rattle.diagrams.specs.Tree.{Assignment}
 use Rattle.diagrams.specs.Eval.{Diagrams, is_one}
 use Rattle.diagrams.specs.Live.{IsLive, Keeps}
-use Rattle.diagrams.proofs.Meaning.{Keeps_trans}
+use Rattle.diagrams.proofs.Meaning.{Keeps_trans, is_one-lasts}
 use Rattle.obligations.specs.declared.cells.Obligation.{Obligation}
 use Rattle.obligations.specs.Table.{missing, ends_of, body_of}
 use Rattle.obligations.specs.Value.{joint, by_values, cell, holds, IsClaim}
@@ -16,7 +16,7 @@ use Rattle.obligations.proofs.Holds.{by_values-obligations}
 use Rattle.path_programs.specs.declared.lead.Lead.{Lead}
 use Rattle.path_programs.specs.Made.{IsOneWhere}
 use Rattle.path_programs.specs.Lead.{Leads, IsRest}
-use Rattle.path_programs.proofs.Making.{test_lasts, one_same, one_lasts, one_claim, claim_same}
+use Rattle.path_programs.proofs.Making.{one_same, one_lasts, one_claim, claim_same}
 use Rattle.path_programs.proofs.Growing.{entry-old, entry-new, more-one}
 use Rattle.path_programs.proofs.Leads.{IsKept, cell-further, cell-reaches}
 
@@ -43,11 +43,11 @@ pub rest_says : (s0 s1 s2 s3 s4 : Diagrams) → Keeps s0 s1 → Keeps s1 s2 → 
 rest_says s0 s1 s2 s3 s4 k1 k2 k3 k4 i j later fi fj then next live pi pj m1 m2 =
     one_same s4 next (λ a. is_one s3 fi a || is_one s3 then a) (λ a. a (s0.props + i) || a (s0.props + j) && is_one s0 later a) m2 (λ a.
     rw (
-      test_lasts s1 s3 (Keeps_trans s1 s2 s3 k2 k3) fi pi.live a,
+      is_one-lasts s1 s3 (Keeps_trans s1 s2 s3 k2 k3) fi pi.live a,
       pi.value a,
       m1.value a,
       pj.value a,
-      test_lasts s0 s2 (Keeps_trans s0 s1 s2 k1 k2) later live a,
+      is_one-lasts s0 s2 (Keeps_trans s0 s1 s2 k1 k2) later live a,
       k2.extends.props,
       k1.extends.props,
     ) refl)
@@ -77,7 +77,7 @@ rest_right s s4 k4 i j c e hi hj li lj later next l live kept o = λ n d q k fro
       stays_body = ap (λ o. o.body) (from.same j hj lj) ∙ kept.stays_body;
     } in
     (one_lasts s4 n k next (λ a. a (s.props + i) || a (s.props + j) && is_one s later a) o).value x
-    ∙ rw (asked s.props n t.extends.props d w i, asked s.props n t.extends.props d w j, sym (test_lasts s n t later live x)) (cell-reaches n d q (holds n d later) l leads i j own w)
+    ∙ rw (asked s.props n t.extends.props d w i, asked s.props n t.extends.props d w j, sym (is_one-lasts s n t later live x)) (cell-reaches n d q (holds n d later) l leads i j own w)
 
 -- a relation that never stays is reached further alone
 reaches-further : (s : Diagrams) (c : List Obligation) (q : WordRelation) (k : Claim) (l : Lead) → Leads s c q k l → ((a : Assignment) → is_one s l.stays a ≡ false) → l.ends ≡ false → (w : Word) → reaches_further q k w ≡ reaches q k w
@@ -97,7 +97,7 @@ pub rest_further_right : (s s1 : Diagrams) → Keeps s s1 → (i : ℕ) (c e : L
 rest_further_right s s1 k1 i c e hi li later next l end body live stays ends o = λ n d q k from leads w.
     holds-literal s1 n k d i next o w
     ∙ cell-further n d q (holds n d later) l leads i (ap (λ o. o.ends) (from.same i hi li) ∙ end) (ap (λ o. o.body) (from.same i hi li) ∙ body) w
-    ∙ reaches-further n d q (holds n d later) l leads (λ a. test_lasts s n (Keeps_trans s s1 n k1 k) l.stays live a ∙ stays a) ends w
+    ∙ reaches-further n d q (holds n d later) l leads (λ a. is_one-lasts s n (Keeps_trans s s1 n k1 k) l.stays live a ∙ stays a) ends w
 
 -- the obligation of a further turn, or what comes later
 pub again_says : (s0 s1 s2 s3 : Diagrams) → Keeps s0 s1 → Keeps s1 s2 → Keeps s2 s3 → (i j : ℕ) → i ≡ j → (later turn next : Id) → IsLive s0 later → IsOneWhere s1 turn (λ a. a (s1.props + i))
@@ -105,7 +105,7 @@ pub again_says : (s0 s1 s2 s3 : Diagrams) → Keeps s0 s1 → Keeps s1 s2 → Ke
 again_says s0 s1 s2 s3 k1 k2 k3 i j e later turn next live p o =
     one_lasts s2 s3 k3 next (λ a. a (s3.props + j) || is_one s0 later a)
     (one_same s2 next (λ a. is_one s1 turn a || is_one s1 later a) (λ a. a (s3.props + j) || is_one s0 later a) o
-    (λ a. rw (p.value a, test_lasts s0 s1 k1 later live a, k3.extends.props, k2.extends.props, e) refl))
+    (λ a. rw (p.value a, is_one-lasts s0 s1 k1 later live a, k3.extends.props, k2.extends.props, e) refl))
 
 -- what is handed to the path of a star is a claim
 pub again_claim : (s n : Diagrams) → Keeps s n → (j count old : ℕ) (later next : Id) → j < count → old ≤ count → IsClaim s old later

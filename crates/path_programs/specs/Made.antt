@@ -1,5 +1,5 @@
 -- Diagrams by where they are 1.
-use Rattle.std.specs.Prelude.{◌≡◌, ◌<◌, ◌==◌, ◌&&◌, ◌||◌, Bool, true, false, not}
+use Rattle.std.specs.Prelude.{◌≡◌, ◌<◌, ◌&&◌, ◌||◌, Bool, true, false, not}
 use Rattle.forms.specs.Operators.{agree}
 use Rattle.forms.specs.Tree.{Formula, True, False, Atom, Not, And, Or, Implies, Iff}
 use Rattle.diagrams.specs.declared.top.Id.{Id}

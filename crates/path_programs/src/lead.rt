@@ -1,5 +1,5 @@
 //! Where a path leads from a position.
-ghost use Rattle.std.specs.Prelude.{◌≡◌, ◌&&◌, ◌||◌, IfOk};
+ghost use Rattle.std.specs.Prelude.{◌&&◌, ◌||◌, IfOk};
 ghost use Rattle.diagrams.specs.Live.{Keeps, IsTruth};
 ghost use Rattle.path_programs.specs.Lead.{IsEither, IsInTurn};
 

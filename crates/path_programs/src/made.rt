@@ -1,5 +1,5 @@
 //! Diagrams made of others.
-ghost use Rattle.std.specs.Prelude.{◌≡◌, ◌≤◌, ◌+◌, ◌^◌, ◌&&◌, ◌||◌, true, false, not, length, IfOk};
+ghost use Rattle.std.specs.Prelude.{◌≤◌, ◌+◌, ◌^◌, ◌&&◌, ◌||◌, true, false, not, IfOk};
 ghost use Rattle.forms.specs.Operators.{agree};
 ghost use Rattle.diagrams.specs.Live.{Keeps, IsTruth};
 ghost use Rattle.diagrams.specs.Eval.{is_one};

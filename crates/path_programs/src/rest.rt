@@ -1,7 +1,6 @@
 //! What the first of two paths, and a turn of a star, has to go on to.
 ghost use Rattle.std.specs.Prelude.{◌≡◌, ◌+◌, ◌||◌, false, length, IfOk, OnOk};
 ghost use Rattle.diagrams.specs.Tree.{Assignment};
-ghost use Rattle.diagrams.specs.Live.{Keeps};
 ghost use Rattle.obligations.specs.Table.{ends_of};
 ghost use Rattle.obligations.specs.Value.{IsClaim, FitsCells};
 ghost use Rattle.diagrams.specs.Eval.{is_one};

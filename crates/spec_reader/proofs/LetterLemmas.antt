@@ -6,10 +6,7 @@ use Rattle.std.proofs.lemmas.Bool.Decides.{nat_tests}
 use Rattle.std.proofs.lemmas.Nat.{or_lt, pow_below}
 use Rattle.std.proofs.lemmas.Nat.Bits.{bit_at-lt, bit_at_or, bit_at-zero, bit_at-pow_same, bit_at-pow_other, same_from_bits_below}
 use Rattle.bes_io.specs.Letter.{has}
-
--- bits of which one is set where the other is are equal
-same_bit : (x y : ℕ) → x < 2 → y < 2 → (x == 1) ≡ (y == 1) → x ≡ y
-same_bit x y hx hy e = grind (arith, nat_tests)
+use Rattle.bes_io.proofs.Bits.{same_bit}
 
 -- a letter is known by its propositions
 pub same_from_has : (p a b : ℕ) → a < 2 ^ p → b < 2 ^ p → ((i : ℕ) → i < p → has p i a ≡ has p i b) → a ≡ b

@@ -1,24 +1,19 @@
 -- Small functions, and operations on them.
-use Rattle.std.proofs.Common.{◌≡◌, ℕ, ◌<◌, ◌≤◌, ◌+◌, ◌*◌, arith, Bool, true, false, if◌then◌else◌, refl, sym, ◌∙◌, ap, Result, IfOk, List, [], ◌∷◌, zero, suc, length}
+use Rattle.std.proofs.Common.{◌≡◌, ℕ, ◌<◌, arith, Bool, true, false, if◌then◌else◌, refl, sym, ◌∙◌, ap, Result, IfOk, [], ◌∷◌, zero, suc}
 use Rattle.std.proofs.lemmas.Result.{IfOk-weaker}
 use Rattle.diagrams.specs.declared.top.Id.{Id}
 use Rattle.diagrams.specs.declared.work.Op.{Op}
 use Rattle.diagrams.specs.declared.work.Op.TheVariants.{Pair}
 use Rattle.diagrams.specs.Tree.{Assignment}
 use Rattle.diagrams.specs.Eval.{Diagrams, eval, DependsOn, literal_value}
-use Rattle.diagrams.specs.Live.{IsLive, IsTruth, Keeps, Means}
-use Rattle.diagrams.specs.Work.{CanApply, CanCombine, applied, combined_value}
+use Rattle.diagrams.specs.Live.{IsTruth, Means}
+use Rattle.diagrams.specs.Work.{CanApply, CanCombine, combined_value}
 use Rattle.diagrams.specs.Composed.{AllTruths, IsOverObligations, IsObligation}
-use Rattle.diagrams.specs.Eval.{id_at}
-use Rattle.diagrams.proofs.Meaning.{eval-lasts, truth_lasts, means_lasts}
+use Rattle.diagrams.proofs.DependsLemmas.{over_weaker}
 
 -- a constant depends on nothing
 pub constant_depends : (s : Diagrams) (i : Id) (x : ℕ) (P : ℕ → Type 0) → Means s i (λ _. x) → DependsOn s i P
 constant_depends s i x P m a b same = m.value a ∙ sym (m.value b)
-
--- nor does it when the store has grown
-pub constant_over : (s n : Diagrams) → Keeps s n → (i : Id) (x : ℕ) (P : ℕ → Type 0) → Means s i (λ _. x) → DependsOn n i P
-constant_over s n k i x P m = constant_depends n i x P (means_lasts s n k i (λ _. x) m)
 
 choice_small : (b : Bool) → (if b then 1 else 0) < 2
 choice_small true = omega arith
@@ -34,14 +29,6 @@ pub variable_over : {E : Type 0} (r : Result Id E) (n : Diagrams) (v : ℕ) → 
 variable_over r n v =
     IfOk-weaker r (λ id. Means n id (literal_value v)) (λ id. DependsOn n id (λ w. w ≡ v))
     (λ id m a b same. m.value a ∙ ap (λ c. if c then 1 else 0) (same v refl) ∙ sym (m.value b))
-
--- a function that depends on some variables depends on more
-pub over_weaker : (s : Diagrams) (i : Id) (P Q : ℕ → Type 0) → ((v : ℕ) → P v → Q v) → DependsOn s i P → DependsOn s i Q
-over_weaker s i P Q w d a b same = d a b (λ v h. same v (w v h))
-
--- what a function depends on stays when the store grows
-pub over_later : (s n : Diagrams) → Keeps s n → (i : Id) (P : ℕ → Type 0) → IsLive s i → DependsOn s i P → DependsOn n i P
-over_later s n k i P l d a b same = eval-lasts s n k.was k.now k.extends i l a ∙ d a b same ∙ sym (eval-lasts s n k.was k.now k.extends i l b)
 
 -- an operation on functions with the terminals 0 and 1
 pub can_combine : (s : Diagrams) (op : Op) → ((x y : ℕ) → x < 2 → y < 2 → CanApply op x y) → (f g : Id) → IsTruth s f → IsTruth s g → CanCombine s op f g

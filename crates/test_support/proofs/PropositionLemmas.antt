@@ -1,10 +1,10 @@
 -- The automata of a proposition and of the formula that is always true.
 use Rattle.std.proofs.Common.{◌≡◌, ℕ, zero, suc, ◌<◌, Bool, true, false, if◌then◌else◌, List, [], ◌∷◌, refl, sym, ◌∙◌, ap, subst, arith}
-use Rattle.std.specs.Prelude.{◌==◌, ◌&&◌, nat_lt, All}
+use Rattle.std.specs.Prelude.{◌==◌, nat_lt, All}
 use Rattle.std.proofs.lemmas.Bool.{lt-ltb}
 use Rattle.bes_io.specs.Letter.{has}
 use Rattle.forms.specs.Word.{Word}
-use Rattle.forms.specs.Tree.{Formula, True, Atom, tree}
+use Rattle.forms.specs.Tree.{True, Atom, tree}
 use Rattle.forms.specs.Satisfaction.{sat}
 use Rattle.diagrams.specs.declared.top.Id.{Id}
 use Rattle.diagrams.specs.Branch.{split_value}

@@ -12,7 +12,8 @@ use Rattle.diagrams.specs.Live.{IsCanonical, IsTruth, Keeps, Means}
 use Rattle.diagrams.specs.Work.{CanCombine, applied, combined_value}
 use Rattle.diagrams.proofs.Meaning.{truth_lasts, Keeps_trans, Extends_refl}
 use Rattle.std.proofs.lemmas.Bool.{cases_Bool}
-use Rattle.test_support.proofs.DiagramLemmas.{over_weaker, over_later, can_combine}
+use Rattle.diagrams.proofs.DependsLemmas.{over_weaker, over_later}
+use Rattle.test_support.proofs.DiagramLemmas.{can_combine}
 use Rattle.obligations.specs.declared.cells.Obligation.{Obligation}
 use Rattle.obligations.specs.Table.{body_of}
 use Rattle.obligations.specs.Value.{IsBody, FitsCells}

@@ -2,7 +2,6 @@
 ghost use Rattle.std.specs.Prelude.{◌≡◌, ◌<◌, All, map, [], ◌∷◌, length, IfOk};
 ghost use Rattle.forms.specs.Tree.{tree, program, Atom, True, Step, Test, Choice, Seq, Star};
 ghost use Rattle.forms.specs.Proper.{IsProperProgram};
-ghost use Rattle.diagrams.specs.Live.{Keeps};
 ghost use Rattle.automata.specs.Table.{IsMeant};
 ghost use Rattle.obligations.specs.Value.{FitsCells};
 ghost use Rattle.path_programs.specs.PathTests.{test_forms};

@@ -1,4 +1,4 @@
-ghost use Rattle.std.specs.Prelude.{◌≡◌, ◌≤◌, IfOk, length};
+ghost use Rattle.std.specs.Prelude.{◌≡◌, IfOk, length};
 ghost use Rattle.trace_meaning.specs.Block as spec;
 ghost use Rattle.trace_meaning.specs.State.{state, path_state};
 

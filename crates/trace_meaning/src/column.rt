@@ -1,4 +1,4 @@
-ghost use Rattle.std.specs.Prelude.{◌≡◌, ◌≤◌, ◌%◌, ◌==◌, IfOk, length, replicate};
+ghost use Rattle.std.specs.Prelude.{◌≡◌, ◌%◌, ◌==◌, IfOk, length, replicate};
 ghost use Rattle.std.specs.Int.{bit_at};
 ghost use Rattle.trace_meaning.specs.Column as spec;
 

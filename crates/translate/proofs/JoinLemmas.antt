@@ -10,7 +10,6 @@ use Rattle.diagrams.specs.declared.work.Op.TheVariants.{And, Or, Iff, Least, Gre
 use Rattle.diagrams.specs.Tree.{Assignment}
 use Rattle.diagrams.specs.Eval.{Diagrams, eval, is_one, literal_value}
 use Rattle.diagrams.specs.Live.{IsLive, Keeps, Means}
-use Rattle.diagrams.specs.Branch.{split_value}
 use Rattle.diagrams.specs.Work.{CanApply, CanCombine, applied, combined_value}
 use Rattle.diagrams.proofs.Meaning.{eval-lasts, live_lasts, means_lasts, Keeps_trans}
 use Rattle.obligations.specs.declared.cells.Obligation.{Obligation}

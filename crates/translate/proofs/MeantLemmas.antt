@@ -3,6 +3,7 @@ use mathlib.Core.Path.{fun_ext}
 use Rattle.std.proofs.Common.{◌≡◌, ℕ, ◌<◌, ◌≤◌, Bool, true, false, List, [], ◌∷◌, refl, sym, ◌∙◌, ap, ap₂, subst, not, ◌&&◌}
 use Rattle.std.specs.Prelude.{◌==◌, All}
 use Rattle.std.proofs.lemmas.List.Elements.{All-append, All-cons, All-nil}
+use Rattle.bes_io.proofs.Bits.{same_bit}
 use Rattle.forms.specs.Word.{Word, Claim, IsOver, is_empty}
 use Rattle.forms.specs.Paths.{reaches}
 use Rattle.forms.specs.Tree.{Formula, Program, tree}
@@ -19,7 +20,7 @@ use Rattle.automata.proofs.Lasts.{mark_after-lasts, meant_lasts}
 use Rattle.automata.proofs.Everywhere.{IsMeant-everywhere}
 use Rattle.automata.proofs.Words.{location_after-within}
 use Rattle.minimise.specs.Minimal.{IsLeastFor, Decides, AreTheSame}
-use Rattle.minimise.proofs.Counts.{same_bit, size_is_class_count}
+use Rattle.minimise.proofs.Counts.{size_is_class_count}
 use Rattle.minimise.proofs.Unique.{least_is_unique}
 use Rattle.minimise.proofs.Smallest.{least_is_smallest}
 use Rattle.translate.specs.declared.operation.Unary.{Unary}

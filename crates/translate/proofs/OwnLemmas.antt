@@ -1,23 +1,24 @@
 -- The obligation of an operator, which stands last in its table.
 use Rattle.std.proofs.Common.{◌≡◌, ℕ, ◌<◌, ◌+◌, ◌++◌, Bool, List, [], ◌∷◌, length, length-append, refl, sym, ◌∙◌, ap, arith}
-use Rattle.std.specs.Prelude.{slice_index_or, ◌==◌}
+use Rattle.std.specs.Prelude.{slice_index_or}
 use Rattle.forms.specs.Word.{Word, Claim}
 use Rattle.diagrams.specs.declared.top.Id.{Id}
 use Rattle.diagrams.specs.declared.work.Op.{Op}
 use Rattle.diagrams.specs.Tree.{Assignment}
 use Rattle.diagrams.specs.Eval.{Diagrams, is_one, literal_value}
-use Rattle.diagrams.specs.Live.{Keeps, IsLive, Means}
+use Rattle.diagrams.specs.Live.{Keeps, Means}
 use Rattle.diagrams.specs.Work.{combined_value}
-use Rattle.diagrams.proofs.Meaning.{eval-lasts, live_lasts, means_lasts, Keeps_refl}
+use Rattle.diagrams.proofs.Meaning.{live_lasts, means_lasts, Keeps_refl, is_one-lasts}
 use Rattle.obligations.specs.declared.cells.Obligation.{Obligation}
 use Rattle.obligations.specs.Table.{missing, ends_of, body_of}
 use Rattle.obligations.specs.Value.{cell, holds, joint, IsBody, IsClaim, FitsCells}
 use Rattle.obligations.specs.Inclusion.{later}
 use Rattle.obligations.proofs.Holds.{body_lasts}
 use Rattle.obligations.proofs.InclusionLemmas.{later-joint}
+use Rattle.path_programs.proofs.Resting.{last-one}
 use Rattle.translate.specs.Joined.{IsJoin, joined, repeated, awaited, stepped, ended}
 use Rattle.translate.specs.Standing.{Stands}
-use Rattle.translate.proofs.StandingLemmas.{goes_on_add, last_entry, fits_add}
+use Rattle.translate.proofs.StandingLemmas.{goes_on_add, fits_add}
 use Rattle.translate.proofs.JoinLemmas.{literal_claim, literal_holds, literal_says, literal_body, literal_truth, body_grown, combined_body, combined_one, combined_lasts}
 
 -- the table with the operator's obligation
@@ -57,7 +58,7 @@ pub own_repeated : (s n : Diagrams) → Keeps s n → (c : List Obligation) (now
     → ((a : Assignment) → is_one n body a ≡ joined op (is_one n (body_of c now) a) (later n (length c) a)) → (w : Word) → cell n (with_own c ends body) w (length c) ≡ repeated op ends f w
 own_repeated s n k c now f x op ends body says w =
     let y : Obligation = record { ends = ends; body = body } in
-    let last : slice_index_or (c ++ y ∷ []) (length c) missing ≡ y = last_entry c (c ++ y ∷ []) y refl in
+    let last : slice_index_or (c ++ y ∷ []) (length c) missing ≡ y = last-one c (c ++ y ∷ []) y refl in
     cell-repeated n (c ++ y ∷ []) (length c) now op ends f (ap (λ v. v.ends) last)
     (λ a. ap (λ v. is_one n v.body a) last ∙ says a ∙ ap (λ v. joined op (is_one n v a) (later n (length c) a)) (sym (body_before c y now x.within)))
     (λ v. x.same n (c ++ y ∷ []) k (goes_on_add c (c ++ y ∷ []) y refl) v) w
@@ -79,7 +80,7 @@ pub own_awaited : (s n : Diagrams) → Keeps s n → (c : List Obligation) (p q 
     → (w : Word) → cell n (with_own c ends body) w (length c) ≡ awaited outer inner ends f g w
 own_awaited s n k c p q f g x z outer inner ends body says w =
     let y : Obligation = record { ends = ends; body = body } in
-    let last : slice_index_or (c ++ y ∷ []) (length c) missing ≡ y = last_entry c (c ++ y ∷ []) y refl in
+    let last : slice_index_or (c ++ y ∷ []) (length c) missing ≡ y = last-one c (c ++ y ∷ []) y refl in
     cell-awaited n (c ++ y ∷ []) (length c) p q outer inner ends f g (ap (λ v. v.ends) last)
     (λ a.
     ap (λ v. is_one n v.body a) last
@@ -104,14 +105,11 @@ pub own_stepped : (s n : Diagrams) → Keeps s n → (c : List Obligation) (p q 
     → ((a : Assignment) → is_one n body a ≡ joined op (later n q a) (later n p a)) → (w : Word) → cell n (with_own c ends body) w (length c) ≡ stepped op ends f w
 own_stepped s n k c p q f ends x z op body says w =
     let y : Obligation = record { ends = ends; body = body } in
-    let last : slice_index_or (c ++ y ∷ []) (length c) missing ≡ y = last_entry c (c ++ y ∷ []) y refl in
+    let last : slice_index_or (c ++ y ∷ []) (length c) missing ≡ y = last-one c (c ++ y ∷ []) y refl in
     cell-stepped n (c ++ y ∷ []) (length c) p q op ends f (ap (λ v. v.ends) last)
     (λ a. ap (λ v. is_one n v.body a) last ∙ says a)
     (λ v. x.same n (c ++ y ∷ []) k (goes_on_add c (c ++ y ∷ []) y refl) v)
     (λ v. z.same n (c ++ y ∷ []) k (goes_on_add c (c ++ y ∷ []) y refl) v) w
-
-is_one-lasts : (s n : Diagrams) → Keeps s n → (f : Id) → IsLive s f → (a : Assignment) → is_one n f a ≡ is_one s f a
-is_one-lasts s n k f h a = ap (λ v. v == 1) (eval-lasts s n k.was k.now k.extends f h a)
 
 -- what the body of an operator that waits says, where g and what is asked of the next position are joined
 pub awaited_says : (s m n : Diagrams) → Keeps s m → Keeps m n → (outer inner : Op) → IsJoin outer → (f g rest body : Id) (own : ℕ) → IsBody s own f → IsBody s own g → IsBody m (own + 1) rest

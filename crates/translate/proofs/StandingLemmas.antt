@@ -3,7 +3,7 @@ use Rattle.std.proofs.Common.{◌≡◌, ℕ, ◌<◌, ◌+◌, ◌++◌, Bool, 
 use Rattle.std.specs.Prelude.{◌==◌, not, slice_index_or}
 use Rattle.std.specs.Int.{from_bool}
 use Rattle.std.proofs.lemmas.Bool.{cases_lt}
-use Rattle.std.proofs.lemmas.List.{get_or_append_left, get_or_at}
+use Rattle.std.proofs.lemmas.List.{get_or_append_left}
 use Rattle.forms.specs.Word.{Word, Claim}
 use Rattle.forms.specs.Operators.{agree}
 use Rattle.diagrams.specs.declared.top.Id.{Id}
@@ -18,6 +18,7 @@ use Rattle.obligations.specs.Table.{missing, ends_of, body_of}
 use Rattle.obligations.specs.Value.{cell, IsBody, FitsCells, joint}
 use Rattle.obligations.specs.Followed.{GoesOn, StandsFor}
 use Rattle.obligations.proofs.Holds.{body_lasts, body_wider}
+use Rattle.path_programs.proofs.Resting.{last-one}
 use Rattle.translate.specs.Exact.{accepted}
 use Rattle.translate.specs.Joined.{ended}
 use Rattle.translate.specs.Standing.{Stands}
@@ -39,10 +40,6 @@ goes_on_add c d x e = record {
   longer = rw (e, length-append) (omega arith);
   same = λ j a l. rw e (get_or_append_left c (x ∷ []) missing j l);
 }
-
--- the last obligation of a table
-pub last_entry : (c d : List Obligation) (x : Obligation) → d ≡ c ++ x ∷ [] → slice_index_or d (length c) missing ≡ x
-last_entry c d x e = rw e (get_or_at c x [] missing (length c) refl)
 
 -- an obligation stands for its claim in what grows
 pub Stands-lasts : (s n : Diagrams) (c d : List Obligation) (j : ℕ) (f : Claim) → Keeps s n → GoesOn c d → Stands s c j f → Stands n d j f
@@ -88,7 +85,7 @@ fits_add s n c d x k f b e j h =
           rw same (body_wider n (length c) (length c + 1) (body_of c j) (omega arith) (body_lasts s n k (length c) (body_of c j) (f j l)))
       | inr l ↦
           let here : j ≡ length c = omega arith in
-          let same : body_of d (length c) ≡ x.body = ap (λ v. v.body) (last_entry c d x e) in
+          let same : body_of d (length c) ≡ x.body = ap (λ v. v.body) (last-one c d x e) in
           rw (here, same) b
     ])
 
@@ -120,6 +117,6 @@ Stands-end s c d ends body q m e = record {
   same = λ n b k g w.
       let x : Obligation = record { ends = ends; body = body } in
       let l : length c < length d = rw (e, length-append) (omega arith) in
-      let same : slice_index_or b (length c) missing ≡ x = g.same (length c) (omega arith) l ∙ last_entry c d x e in
+      let same : slice_index_or b (length c) missing ≡ x = g.same (length c) (omega arith) l ∙ last-one c d x e in
       cell-end_of n b (length c) ends (ap (λ v. v.ends) same) (λ a. ap (λ v. eval n v.body a) same ∙ eval-lasts s n k.was k.now k.extends body m.live a ∙ m.value a) w;
 }

@@ -1,12 +1,9 @@
 -- Truth values joined by an operation of diagrams, and what an operator says that asks itself again at the next position.
-use Rattle.std.specs.Prelude.{ℕ, Bool, false, [], ◌∷◌, ◌&&◌, ◌||◌, ◌==◌, if◌then◌else◌}
+use Rattle.std.specs.Prelude.{Bool, false, [], ◌∷◌, ◌&&◌, ◌||◌}
 use Rattle.forms.specs.Word.{Claim, is_empty}
 use Rattle.forms.specs.Operators.{agree}
-use Rattle.diagrams.specs.declared.top.Id.{Id}
 use Rattle.diagrams.specs.declared.work.Op.{Op}
 use Rattle.diagrams.specs.declared.work.Op.TheVariants.{And, Or, Iff, Least, Greatest, Pair}
-use Rattle.diagrams.specs.Tree.{Assignment}
-use Rattle.diagrams.specs.Eval.{Diagrams, eval}
 
 -- the operation joins truth values
 abbrev pub IsJoin : Op → Type 0

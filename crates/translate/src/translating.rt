@@ -1,5 +1,5 @@
 //! The least automaton of a formula.
-ghost use Rattle.std.specs.Prelude.{◌≡◌, ℕ, ◌<◌, ◌≤◌, ◌^◌, All, IfOk, IfErr};
+ghost use Rattle.std.specs.Prelude.{◌≡◌, ◌<◌, ◌≤◌, ◌^◌, All, IfOk, IfErr};
 ghost use Rattle.forms.specs.Tree.{tree, nodes};
 ghost use Rattle.forms.specs.Proper.{IsProper};
 ghost use Rattle.forms.specs.Satisfaction.{meets};

@@ -1,6 +1,5 @@
-use Rattle.std.proofs.Common.{◌≡◌, ◌<◌, ap, sym, refl, Some, length, slice_index, arith}
+use Rattle.std.proofs.Common.{◌<◌, ap, sym, slice_index, arith}
 use Rattle.diagrams.specs.Eval.{tree}
-use Rattle.diagrams.specs.Live.{IsLive, Keeps}
 use Rattle.diagrams.specs.Transformed.{Transforms, IsTransformed, IsTableItem, same_id}
 use Rattle.diagrams.proofs.Canon.{tree_size}
 use Rattle.diagrams.proofs.Meaning.{live-above, live_lasts, top_is, Keeps_trans, eval-terminal}

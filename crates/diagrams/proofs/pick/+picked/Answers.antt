@@ -1,10 +1,9 @@
-use Rattle.std.proofs.Common.{◌≡◌, ◌<◌, ◌≤◌, sym, refl, ap, subst, Some, arith}
+use Rattle.std.proofs.Common.{◌<◌, sym, subst, arith}
 use Rattle.diagrams.specs.Eval.{tree, eval}
-use Rattle.diagrams.specs.Live.{IsLive, IsTruth, Keeps}
 use Rattle.diagrams.specs.Transformed.{Transforms, IsTransformed, same_id}
-use Rattle.diagrams.specs.Picked.{IsLeastNumber, first_number}
+use Rattle.diagrams.specs.Picked.{IsLeastNumber}
 use Rattle.diagrams.proofs.Canon.{tree_size}
-use Rattle.diagrams.proofs.Meaning.{live-above, live_lasts, truth_lasts, top_is, Keeps_trans}
+use Rattle.diagrams.proofs.Meaning.{truth_lasts, top_is, Keeps_trans}
 use Rattle.diagrams.proofs.Growth.{stands_lasts}
 use Rattle.diagrams.proofs.Kept.{kept_same, kept_learnt}
 use Rattle.diagrams.proofs.Works.{id_true}

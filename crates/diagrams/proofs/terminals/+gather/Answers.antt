@@ -1,9 +1,6 @@
-use Rattle.std.proofs.Common.{◌≡◌, ◌<◌, ◌∙◌, sym, refl, ap, arith, true, false, ◌++◌, ◌∷◌, []}
-use Rattle.std.specs.HashSet as set
+use Rattle.std.proofs.Common.{◌<◌, ◌∙◌, sym, arith, true, false}
 use Rattle.std.proofs.lemmas.Result.{on_ok_weaker}
 use Rattle.diagrams.specs.Eval.{tree}
-use Rattle.diagrams.specs.Transformed.{same_id}
-use Rattle.diagrams.specs.Terminals.{terminals_of, with_new, IsGathered}
 use Rattle.diagrams.proofs.Canon.{tree_size}
 use Rattle.diagrams.proofs.Meaning.{top_is, live-above}
 use Rattle.diagrams.proofs.Transformed.{down}

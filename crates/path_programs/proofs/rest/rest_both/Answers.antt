@@ -1,7 +1,7 @@
 use Rattle.std.proofs.Common.{◌+◌, arith}
 use Rattle.diagrams.proofs.Meaning.{Keeps_trans, truth_lasts}
-use Rattle.obligations.proofs.Holds.{body_lasts}
-use Rattle.path_programs.proofs.Making.{claim_truth, one_truth_later, body_more}
+use Rattle.obligations.proofs.Holds.{body_lasts, body_wider}
+use Rattle.path_programs.proofs.Making.{claim_truth, one_truth_later}
 use Rattle.path_programs.proofs.Growing.{grown_keeps, grown_same, grown_add}
 use Rattle.path_programs.proofs.Resting.{rest_says, rest_claim, rest_right, kept_two, length-one}
 use Rattle.path_programs.proofs.rest.rest_both.Goals as goal
@@ -39,7 +39,7 @@ returns-clause-grown c =
     let k = Keeps_trans _ _ _ c.literal.ensures.keeps (Keeps_trans _ _ _ c.literal-2.ensures.keeps (Keeps_trans _ _ _ c.both.ensures.keeps c.either.ensures.keeps)) in
     let e = length-one _ _ _ c.in_ok-add.ensures.ok in
     grown_add _ _ _ _ _ _ (grown_add _ _ _ _ _ _ (grown_keeps _ _ _ k c.requires.fits) (body_lasts _ _ k _ _ c.requires.bodies.further) c.in_ok-add.ensures.ok)
-    (body_more _ _ _ _ (omega (arith, e)) (body_lasts _ _ k _ _ c.requires.bodies.stays)) c.in_ok-add-2.ensures.ok
+    (body_wider _ _ _ _ (omega (arith, e)) (body_lasts _ _ k _ _ c.requires.bodies.stays)) c.in_ok-add-2.ensures.ok
 
 pub returns-clause-claim : goal.returns-clause-claim
 returns-clause-claim c =

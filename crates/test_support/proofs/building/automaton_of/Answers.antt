@@ -1,4 +1,4 @@
-use Rattle.std.proofs.Common.{◌≡◌, ◌<◌, ◌≢◌, ◌+◌, arith, sym, ◌∙◌, ap, length, length-append}
+use Rattle.std.proofs.Common.{◌≡◌, ◌≢◌, ◌+◌, arith, sym, ◌∙◌, ap, length, length-append}
 use Rattle.std.proofs.lemmas.Bool.{eqb-false}
 use Rattle.diagrams.proofs.Meaning.{Keeps_trans}
 use Rattle.test_support.proofs.BuildingLemmas.{good_more}

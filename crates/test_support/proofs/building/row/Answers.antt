@@ -1,6 +1,6 @@
 use Rattle.std.proofs.Common.{◌≡◌, ◌<◌, ◌≤◌, arith, sym, ◌∙◌}
 use Rattle.diagrams.proofs.Meaning.{means_lasts}
-use Rattle.test_support.proofs.DiagramLemmas.{constant_over}
+use Rattle.diagrams.proofs.DependsLemmas.{constant_over}
 use Rattle.test_support.proofs.BuildingLemmas.{split_ok}
 use Rattle.test_support.proofs.building.row.Goals as goal
 

@@ -1,6 +1,6 @@
 use Rattle.std.proofs.Common.{◌<◌, ◌∙◌}
 use Rattle.diagrams.proofs.Meaning.{Keeps_trans, means_lasts}
-use Rattle.test_support.proofs.DiagramLemmas.{constant_over}
+use Rattle.diagrams.proofs.DependsLemmas.{constant_over}
 use Rattle.test_support.proofs.PropositionLemmas.{row_means, proposition_meant}
 use Rattle.test_support.proofs.propositions.proposition.Goals as goal
 

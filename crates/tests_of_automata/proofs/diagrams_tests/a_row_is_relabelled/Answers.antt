@@ -1,4 +1,4 @@
-use Rattle.std.proofs.Common.{◌<◌, arith}
+use Rattle.std.proofs.Common.{arith}
 use Rattle.automata.proofs.Lasts.{row_lasts}
 use Rattle.tests_of_automata.proofs.diagrams_tests.a_row_is_relabelled.Goals as goal
 

@@ -1,4 +1,4 @@
-use Rattle.std.proofs.Common.{◌≡◌, ◌∙◌}
+use Rattle.std.proofs.Common.{◌∙◌}
 use Rattle.diagrams.proofs.Meaning.{truth_lasts}
 use Rattle.test_support.proofs.DiagramLemmas.{two_truths, obligation_over}
 use Rattle.tests_of_automata.proofs.diagrams_tests.obligation.Goals as goal

@@ -1,6 +1,6 @@
 use Rattle.std.proofs.Common.{◌≡◌, ◌<◌, arith}
 use Rattle.diagrams.proofs.Meaning.{truth_lasts}
-use Rattle.test_support.proofs.DiagramLemmas.{over_weaker, over_later}
+use Rattle.diagrams.proofs.DependsLemmas.{over_weaker, over_later}
 use Rattle.tests_of_automata.proofs.diagrams_tests.pair.Goals as goal
 
 pub returns-clause-a : goal.returns-clause-a

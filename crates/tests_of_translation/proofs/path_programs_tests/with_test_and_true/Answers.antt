@@ -1,4 +1,4 @@
-use Rattle.forms.specs.Tree.{tree, Atom}
+use Rattle.forms.specs.Tree.{Atom}
 use Rattle.diagrams.proofs.Meaning.{Keeps_trans}
 use Rattle.automata.proofs.Lasts.{meant_lasts}
 use Rattle.obligations.proofs.Holds.{fits_cells_lasts}

@@ -1,4 +1,4 @@
-use Rattle.std.proofs.Common.{◌≡◌, ◌<◌, length, arith}
+use Rattle.std.proofs.Common.{arith}
 use Rattle.std.proofs.lemmas.Option.{slice_get_within}
 use Rattle.diagrams.specs.Inside.{store_of}
 use Rattle.diagrams.proofs.Table.{live_plain, top_read}

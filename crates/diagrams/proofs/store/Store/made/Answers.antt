@@ -1,6 +1,6 @@
-use Rattle.std.proofs.Common.{◌≡◌, ◌<◌, ◌∙◌, sym, refl, Some, None, length, arith}
+use Rattle.std.proofs.Common.{◌∙◌, sym, refl, arith}
 use Rattle.diagrams.specs.Branch.{IsFit}
-use Rattle.diagrams.specs.Inside.{store_of, HasUniqueTable}
+use Rattle.diagrams.specs.Inside.{store_of}
 use Rattle.diagrams.proofs.Table.{grows, Grows, kept_same, pop_push}
 use Rattle.diagrams.proofs.store.Store.made.Goals as goal
 use Rattle.diagrams.proofs.store.Store.made.Goals.{In-Ok}
