@@ -2,16 +2,20 @@
 import filecmp
 import os
 import random
+import resource
 import shutil
 import statistics
 import subprocess
 import sys
 
+import mona
+
 SCRATCH = sys.argv[1]
 PROGRAM = os.path.abspath(os.environ["PROGRAM"])
 BASELINE = os.environ.get("BASELINE")
+MONA = os.environ.get("MONA")
 REPEAT = int(os.environ.get("REPEAT", "5"))
-ENOUGH = 20  # seconds of processor time, past which a case isn't repeated
+ENOUGH = 20  # seconds of processor time, past which a case isn't repeated and MONA is stopped
 GNU_TIME = shutil.which("time")
 
 
@@ -21,7 +25,7 @@ def scratch(name):
 
 # Running
 
-def run(command, trace, piped, name):
+def run(command, trace, piped, name, limit=None):
     """The processor time of one run, whose output, message and status are left in two files."""
     feeder = drain = None
     with open(trace or os.devnull) as source, open(scratch(name), "wb") as out, open(scratch(name + ".err"), "wb") as err:
@@ -31,6 +35,8 @@ def run(command, trace, piped, name):
             drain = subprocess.Popen(["cat"], stdin=subprocess.PIPE, stdout=out)
             taken, given = feeder.stdout, drain.stdin
         child = subprocess.Popen(command, stdin=taken, stdout=given, stderr=err)
+        if limit:
+            resource.prlimit(child.pid, resource.RLIMIT_CPU, (limit, limit))
         if piped:
             taken.close()
             given.close()
@@ -82,15 +88,37 @@ def heading(title, *columns):
 
 
 RATIO, SAME = ("Ratio", "Same output") if BASELINE else (None, None)
+TO_MONA, SAME_COUNT = ("Ratio to MONA", "Same count") if MONA else (None, None)
+
+
+def yes(same):
+    return "yes" if same else "NO"
 
 
 def compare(shown, words, trace=None, piped=False, locations=False):
-    """Prints a row, and answers the ratio to the baseline."""
+    """Prints a row, and answers the ratios to the baseline and to MONA."""
     time, other, same = least([PROGRAM, *words], BASELINE and [BASELINE, *words], trace, piped)
     ratio = other and time / other
-    row(shown, locations and location_count(), seconds(time), peak([PROGRAM, *words], trace),
-        ratio and f"{ratio:.1f}", other and ("yes" if same else "NO"))
-    return ratio
+    count = locations and location_count()
+    to_mona, *cells = against_mona(words, time, count) if MONA and locations else (None,)
+    row(shown, count, seconds(time), peak([PROGRAM, *words], trace), ratio and f"{ratio:.1f}", other and yes(same), *cells)
+    return ratio, to_mona
+
+
+def against_mona(words, time, count):
+    """The ratio to MONA's time, and the cells for it and for the count of locations."""
+    times, nothing = [], (None, "-", "-")
+    if words[1] != "ltlf" or not count.isdigit():
+        return nothing
+    command = [MONA, "-q", "-w", written("program", mona.program(words[2]))]
+    while len(times) < REPEAT and sum(times) < ENOUGH:
+        times.append(run(command, None, False, "mona", ENOUGH))
+        with open(scratch("mona")) as output, open(scratch("mona.err")) as messages:
+            automaton = output.read()
+            if "status 0\n" not in messages or "Automaton has" not in automaton:
+                return nothing
+    ratio = time / min(times)
+    return ratio, f"{ratio:.2g}", yes(mona.locations(automaton) == int(count))
 
 
 def location_count():
@@ -154,6 +182,8 @@ FAMILIES = [
     ("`<true;..;true> end`, 960 steps", f"<{steps(960, 30)}> end"),
     *((f"boxes of stars, `[a0*;b] <true*;{{!a0}}>([a1*;b] .. | last)`, {n}",
        nested([f"[a{i}*;b] <true*;{{!a{i}}}>(@ | last)" for i in range(n)], "end")) for n in (3, 5)),
+    ("nested stars with choices, `<(a0;(a1;..;b + c)*;b + c)*> last`, 3",
+     f"<{nested([f'(a{i};@;b + c)*' for i in range(3)], 'd*')}> last"),
     ("parities, `<({!a0}*;a0;{!a0}*;a0)*;{!a0}*> end & ..`, 6",
      every(f"<({{!a{i}}}*;a{i};{{!a{i}}}*;a{i})*;{{!a{i}}}*> end" for i in range(6))),
 ]
@@ -196,10 +226,12 @@ def main():
     heading("Showing forms", "Formula", "Time", "Memory", RATIO, SAME)
     compare("1,990 tokens, `(a -> !(b <-> c)) & ..`", words("forms", every(["(a -> !(b <-> c))"] * 181)))
 
-    heading("Translating", "Formula", "Locations", "Time", "Memory", RATIO, SAME)
+    heading("Translating", "Formula", "Locations", "Time", "Memory", RATIO, SAME, TO_MONA, SAME_COUNT)
     ratios = [compare(shown, words("translate", formula), locations=True) for shown, formula in FAMILIES]
     if BASELINE:
-        print(f"\nThe median of these ratios is {statistics.median(ratios):.1f}.")
+        print(f"\nThe median of these ratios is {statistics.median(ratio for ratio, _ in ratios):.1f}.")
+    if MONA:
+        print(f"\nThe median of the ratios to MONA is {statistics.median(ratio for _, ratio in ratios if ratio):.2g}.")
 
 
 main()
