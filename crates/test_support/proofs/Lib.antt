@@ -1,4 +1,4 @@
-mod DiagramLemmas
-mod BuildingLemmas
-mod TableLemmas
-mod PropositionLemmas
+pub mod DiagramLemmas
+pub mod BuildingLemmas
+pub mod TableLemmas
+pub mod PropositionLemmas
