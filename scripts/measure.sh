@@ -1,7 +1,7 @@
 #!/usr/bin/env bash
 # Measures the program, and prints tables for docs/PERFORMANCE.md.
 #   BASELINE=FILE  another program with the same command line, to compare with
-#   MONA=PROGRAM   translates LTLf formulas by MONA too, /usr/bin/mona or another, for 20 seconds each at most
+#   MONA=PROGRAM   translates LTLf formulas by MONA too, `mona` or another program, for 20 seconds each at most
 #   PROGRAM=FILE   measures this program in place of crates/bes/out/bes
 #   REPEAT=N       each time is the least of N runs, 5 without it
 # Times are processor time of the one process. Peak memory needs GNU time, and is left out where there is none. It takes some
