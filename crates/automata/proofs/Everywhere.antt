@@ -5,7 +5,7 @@ use Rattle.std.specs.Prelude.{◌==◌, ◌&&◌, ◌||◌, not}
 use Rattle.std.specs.Cmp.{both_ways}
 use Rattle.std.proofs.lemmas.Bool.{lt-ltb, le-ltb, cases_lt}
 use Rattle.bes_io.specs.Letter.{has}
-use Rattle.forms.specs.Word.{Word, Claim, IsOver, IsSuffix, whole, later, is_empty, same, some_suffix, every_suffix}
+use Rattle.forms.specs.Word.{Word, Claim, IsSuffix, whole, later, is_empty, same, some_suffix, every_suffix}
 use Rattle.forms.specs.Operators.{agree, next, weak_next, until, release, eventually, always}
 use Rattle.forms.specs.Paths.{WordRelation, reaches, one_step, turns, star}
 use Rattle.forms.specs.Tree.{Formula, Program, True, False, Atom, Not, And, Or, Implies, Iff, Next, WeakNext, Until, Release, Eventually, Always, Diamond, BoxAll, Step, Test, Choice, Seq, Star}
@@ -16,22 +16,8 @@ use Rattle.forms.proofs.Further.{IsSuffix-length}
 use Rattle.diagrams.specs.Eval.{Diagrams, eval, letter_truth}
 use Rattle.automata.specs.Moves.{location_after, accepts}
 use Rattle.automata.specs.Table.{Table, mark_of, row_of, next_of, moves_of, IsMeant}
-use Rattle.automata.proofs.Letters.{spelt, spelt-less, spelt-truth}
-use Rattle.automata.proofs.Words.{over-nil, over-cons}
-
--- the letter with the propositions that a number has
-abbrev pub letter_of : ℕ → ℕ → ℕ
-letter_of p a = spelt (letter_truth p a) p
-
--- the word of those letters
-abbrev pub word_of : ℕ → Word → Word
-word_of p [] = []
-word_of p (a ∷ w) = letter_of p a ∷ word_of p w
-
--- the word of those letters is over the propositions, whatever the numbers
-pub word_of-over : (p : ℕ) (w : Word) → IsOver p (word_of p w)
-word_of-over p [] = over-nil p
-word_of-over p (a ∷ w) = over-cons p (letter_of p a) (word_of p w) (spelt-less (letter_truth p a) p) (word_of-over p w)
+use Rattle.automata.proofs.Letters.{spelt-truth}
+use Rattle.automata.proofs.RenumberLemmas.{letter_of, word_of, over-word_of}
 
 word_of-length : (p : ℕ) (w : Word) → length (word_of p w) ≡ length w
 word_of-length p [] = refl
@@ -173,5 +159,5 @@ location_after-word_of s t at (a ∷ w) =
 pub IsMeant-everywhere : (s : Diagrams) (t : Table) (f : Formula) → IsProper s.props f → IsMeant s t f → (w : Word) → accepts (moves_of s t) w ≡ sat s.props f w
 IsMeant-everywhere s t f proper m w =
     ap (λ at. mark_of t at == 1) (location_after-word_of s t t.first w)
-    ∙ m.same (word_of s.props w) (word_of-over s.props w)
+    ∙ m.same (word_of s.props w) (over-word_of s.props w)
     ∙ sym (sat-word_of s.props f proper w)

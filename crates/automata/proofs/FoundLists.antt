@@ -116,30 +116,12 @@ following_ends p m found k xs f = record {
 pub has_begun : (p : ℕ) (m : Moves) (found : List ℕ) → found ≡ m.first ∷ [] → HasFound p m found 0
 has_begun p m found e = rw (e) (record { word = λ i. []; searching = search_begins p m (slice_index (m.first ∷ [])) refl })
 
--- the places at the start
-pub places_begin : (places : List ℕ) (first : ℕ) → length places < nowhere → first < length places
-    → ((at : ℕ) → at < length places → slice_index places at ≡ nowhere) → ArePlaces (first ∷ []) (slice_set places first 0)
-places_begin places first few h none = record {
-  few = rw (length-set places first 0) few;
-  within = λ i l. let e : i ≡ 0 = omega (arith, l) in rw (e, length-set places first 0) h;
-  place = λ i l. let e : i ≡ 0 = omega (arith, l) in rw (e) (get_or-set_same places first 0 0 h);
-  back = λ at l n. elim (cases_eq at first) [
-    | inl e ↦ let q : slice_index (slice_set places first 0) at ≡ 0 = rw (e) (get_or-set_same places first 0 0 h) in rw (q) (omega arith, sym e)
-    | inr e ↦ absurd (n (get_or-set_other places first at 0 0 e ∙ none at (rw (length-set places first 0) at l)))
-  ];
-}
-
 -- a location that has no place is not among those found
 pub no_place : (found places : List ℕ) → ArePlaces found places → (at : ℕ) → slice_index places at ≡ nowhere
     → (i : ℕ) → i < length found → slice_index found i ≢ at
 no_place found places a at n i l e =
     let few = places_few found places a in
     omega (arith, l, few, a.few, sym (a.place i l) ∙ ap (slice_index places) e ∙ n)
-
--- a location that has a place is among those found
-pub has_place : (found places : List ℕ) → ArePlaces found places → (at : ℕ) → at < length places → slice_index places at ≢ nowhere
-    → IsNoted found found at
-has_place found places a at h n = let b = a.back at h n in inl (refl, (slice_index places at, b.0, b.1))
 
 -- the places with one more
 pub places_noted : (found places : List ℕ) → ArePlaces found places → (at : ℕ) → at < length places → slice_index places at ≡ nowhere

@@ -25,12 +25,15 @@ round_lines-all [] (suc i) h = refl
 round_lines-all (y ∷ cubes) zero h = absurd (omega (arith, h))
 round_lines-all (y ∷ cubes) (suc i) h = ap (λ z. round_line y ++ z) (round_lines-all cubes i (omega (arith, h)))
 
-location_lines-same : (t : Table) (f g : ℕ → List Cube) (n : ℕ) → ((i : ℕ) → i < n → f i ≡ g i) → location_lines t f n ≡ location_lines t g n
-location_lines-same t f g zero e = refl
-location_lines-same t f g (suc n) e =
-    let r = location_lines-same t f g n (λ i h. e i (omega (arith, h))) in
-    let q = e n (omega arith) in
-    rw (r, q) refl
+-- the same marks and cubes have the same lines
+pub location_lines-same : (mark other : ℕ → ℕ) (x y : ℕ → List Cube) (count : ℕ) → ((at : ℕ) → at < count → mark at ≡ other at) → ((at : ℕ) → at < count → x at ≡ y at)
+    → location_lines mark x count ≡ location_lines other y count
+location_lines-same mark other x y zero marks cubes = refl
+location_lines-same mark other x y (suc count) marks cubes =
+    let before = location_lines-same mark other x y count (λ at l. marks at (omega (arith, l))) (λ at l. cubes at (omega (arith, l))) in
+    let last = marks count (omega arith) in
+    let rounds = cubes count (omega arith) in
+    rw (before, last, rounds) refl
 
 -- the lines of one more location
 pub lists_more : (s : Diagrams) (t : Table) (n : ℕ) (text : List ℕ) (cubes : List Cube) → Lists s t n text → AreCubes s (row_of t n) 0 s.props cubes
@@ -42,8 +45,8 @@ lists_more s t n text cubes l a = record {
     | inr x ↦ subst (λ z. AreCubes s (row_of t z) 0 s.props (more z)) (sym x) (subst (AreCubes s (row_of t n) 0 s.props) (sym last) a)
   ];
   lines = rw (add-one)
-      (ap (λ z. (z ++ location_line n (mark_of t n)) ++ round_lines cubes) (l.lines ∙ location_lines-same t l.cubes more n (λ i x. sym (before i x)))
-      ∙ ap (λ z. (location_lines t more n ++ location_line n (mark_of t n)) ++ round_lines z) (sym last));
+      (ap (λ z. (z ++ location_line n (mark_of t n)) ++ round_lines cubes) (l.lines ∙ location_lines-same (mark_of t) (mark_of t) l.cubes more n (λ i x. refl) (λ i x. sym (before i x)))
+      ∙ ap (λ z. (location_lines (mark_of t) more n ++ location_line n (mark_of t n)) ++ round_lines z) (sym last));
 }
   where
     more : ℕ → List Cube

@@ -1,6 +1,5 @@
 -- The walk along a word.
-use Rattle.std.proofs.Common.{◌≡◌, ◌<◌, ◌≤◌, ◌+◌, ℕ, refl, drop, length, get_or, add-one, drop-cons}
-use Rattle.std.proofs.lemmas.List.{drop_all}
+use Rattle.std.proofs.Common.{◌≡◌, ◌<◌, ◌+◌, ℕ, refl, drop, length, get_or, add-one, drop-cons}
 use Rattle.forms.specs.Word.{Word}
 use Rattle.diagrams.specs.Eval.{Diagrams}
 use Rattle.automata.specs.Moves.{location_after}
@@ -15,7 +14,3 @@ pub record IsAfter (s : Diagrams) (t : Table) (word : Word) (k at : ℕ) : Type 
 pub after_step : (s : Diagrams) (t : Table) (word : Word) (k at : ℕ) → k < length word
     → location_after (moves_of s t) at (drop k word) ≡ location_after (moves_of s t) (next_of s t at (get_or word k 0)) (drop (k + 1) word)
 after_step s t word k at h = rw (add-one, drop-cons word k 0) refl
-
--- once all letters are read, the rest of the word leads from a location to itself
-pub after_end : (s : Diagrams) (t : Table) (word : Word) (k at : ℕ) → length word ≤ k → location_after (moves_of s t) at (drop k word) ≡ at
-after_end s t word k at h = rw (drop_all k word h) refl

@@ -18,13 +18,13 @@ abbrev pub round_lines : List Cube → List ℕ
 round_lines [] = []
 round_lines (cube ∷ cubes) = round_line cube ++ round_lines cubes
 
--- for each of the first so many locations its line and those of its cubes
-abbrev pub location_lines : Table → (ℕ → List Cube) → ℕ → List ℕ
-location_lines t cubes zero = []
-location_lines t cubes (suc n) = location_lines t cubes n ++ location_line n (mark_of t n) ++ round_lines (cubes n)
+-- for each of the first so many locations its line, by its mark, and those of its cubes
+abbrev pub location_lines : (ℕ → ℕ) → (ℕ → List Cube) → ℕ → List ℕ
+location_lines mark cubes zero = []
+location_lines mark cubes (suc n) = location_lines mark cubes n ++ location_line n (mark n) ++ round_lines (cubes n)
 
 -- the text has the lines of the first so many locations, with the cubes of their rows
 pub record Lists (s : Diagrams) (t : Table) (count : ℕ) (text : List ℕ) : Type 0 where
   pub cubes : ℕ → List Cube
   pub rows : (at : ℕ) → at < count → AreCubes s (row_of t at) 0 s.props (cubes at)
-  pub lines : text ≡ location_lines t cubes count
+  pub lines : text ≡ location_lines (mark_of t) cubes count

@@ -2,7 +2,7 @@
 use Rattle.std.specs.Prelude.{◌≡◌, ◌<◌, ◌^◌, ℕ}
 use Rattle.automata.specs.Moves.{Moves, IsClosed}
 
--- each location of n is one of m, no two are the same one, and all has the same marks and leads to the same locations
+-- each location of n is one of m, no two are the same one, and each has the mark of its own there and leads to the same locations
 pub record IsSubautomaton (p : ℕ) (m n : Moves) : Type 0 where
   pub of : ℕ → ℕ
   pub closed : IsClosed p n

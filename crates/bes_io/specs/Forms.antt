@@ -1,6 +1,6 @@
 -- What a contract sees of the memory forms.
 use Rattle.std.specs.Prelude.{◌≡◌, ℕ, ◌+◌, ◌-◌, ◌^◌, ◌<◌, ◌⊎◌, min, List, Contains, length, take, Option, None, Some}
-use Rattle.std.specs.Prelude.{◌∷◌, if◌then◌else◌}
+use Rattle.std.specs.Prelude.{◌∷◌, ◌++◌, if◌then◌else◌}
 use Rattle.std.specs.Str.{bytes_eq}
 
 -- a count that stands still at its type's end
@@ -40,6 +40,11 @@ SinkFails s piece = Contains s.fails (counted s.calls) ⊎ (s.room < length s.by
 -- what a call that fails still adds: the front of the piece, as far as the room goes
 abbrev pub added_partly : MemorySink → List ℕ → List ℕ
 added_partly s piece = take (min s.partly (s.room - length s.bytes)) piece
+
+-- one call of `put`: it is counted, and adds the whole piece or what a call that fails still adds
+abbrev pub IsMemPut : MemorySink → List ℕ → MemorySink → Type 0
+IsMemPut before piece after = (after.calls ≡ counted before.calls)
+    × ((after.bytes ≡ before.bytes ++ piece) ⊎ (after.bytes ≡ before.bytes ++ added_partly before piece))
 
 -- the bytes of the file with this name
 abbrev pub file_at : List (List ℕ) → List (List ℕ) → List ℕ → Option (List ℕ)

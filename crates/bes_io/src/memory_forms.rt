@@ -2,7 +2,7 @@
 ghost use Rattle.std.specs.Prelude.{◌≡◌, ◌+◌, ◌-◌, ◌^◌, ◌<◌, ◌≤◌, ◌↔◌, [], ◌++◌, length, take, drop, min, Some, IfOk, IsErr, OnErr};
 ghost use Rattle.bes_io.specs.Causes.{HasCause};
 ghost use Rattle.bes_io.specs.Streams.{Takes, Puts};
-ghost use Rattle.bes_io.specs.Forms.{SourceFails, given, counted, SinkFails, added_partly};
+ghost use Rattle.bes_io.specs.Forms.{SourceFails, given, counted, SinkFails, added_partly, IsMemPut};
 
 use crate::outside::{Failed, Memory, Sink, Source};
 use std::alloc::Global;
@@ -155,9 +155,12 @@ impl Sink for MemSink {
 
     ghost faults = { λ s. s.faults };
 
+    ghost IsPut = { IsMemPut };
+
     fn put(&mut self, piece: &[u8]) -> Result<(), Failed>
         ensures bytes { Puts (Some self.old.bytes) (Some self.new.bytes) result piece.now }
         ensures cause { HasCause self.old.faults self.new.faults result }
+        ensures put { IsMemPut self.old piece.now self.new }
         ensures exact { IsErr result ↔ SinkFails self.old piece.now }
         ensures partly { OnErr result (self.new.bytes ≡ self.old.bytes ++ added_partly self.old piece.now) }
         ensures faults { OnErr result (self.new.faults ≡ counted self.old.faults) }

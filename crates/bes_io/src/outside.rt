@@ -50,16 +50,21 @@ pub trait Source {
         ensures cause { HasCause (faults self.old) (faults self.new) result };
 }
 
-/// Bytes that go out. A sink may tell what it holds; `faults` counts its failures, and ends at 2^64 - 1.
+/// Bytes that go out. A sink may tell what it holds; `faults` counts its failures, and ends at
+/// 2^64 - 1. `IsPut` says what one call of `put` with a piece makes of the sink, so that a caller can
+/// say how often it asks, and for what.
 pub trait Sink {
     ghost held: { Self → Option (List ℕ) };
 
     ghost faults: { Self → ℕ };
 
+    ghost IsPut: { Self → List ℕ → Self → Type 0 };
+
     /// Adds the piece. A call that fails may have added its front.
     fn put(&mut self, piece: &[u8]) -> Result<(), Failed>
         ensures bytes { Puts (held self.old) (held self.new) result piece.now }
-        ensures cause { HasCause (faults self.old) (faults self.new) result };
+        ensures cause { HasCause (faults self.old) (faults self.new) result }
+        ensures put { IsPut self.old piece.now self.new };
 }
 
 /// Files by name. They may tell what they hold; `failed` are the names whose reads failed, in order.

@@ -5,7 +5,7 @@ ghost use Rattle.std.specs.Str.{IsUtf8};
 ghost use Rattle.std.specs.Io.KnownBytes.{ReadConsumes, Appends};
 ghost use Rattle.bes_io.specs.Causes.{HasCause};
 ghost use Rattle.bes_io.specs.Streams.{Takes, Puts, ReadsFile, failure};
-ghost use Rattle.bes_io.specs.Standard.{reader_of, writer_of, told_left, told_held, source_faults, sink_faults, failed_names, told_contents};
+ghost use Rattle.bes_io.specs.Standard.{reader_of, writer_of, told_left, told_held, IsStdPut, source_faults, sink_faults, failed_names, told_contents};
 
 use crate::outside::{Failed, FileFault, Files, Sink, Source};
 use crate::words::Word;
@@ -87,9 +87,12 @@ impl<W: Write> Sink for StdSink<W> {
 
     ghost faults = { sink_faults };
 
+    ghost IsPut = { IsStdPut W.contents };
+
     fn put(&mut self, piece: &[u8]) -> Result<(), Failed>
         ensures bytes { Puts (told_held self.old) (told_held self.new) result piece.now }
         ensures cause { HasCause (sink_faults self.old) (sink_faults self.new) result }
+        ensures put { IsStdPut W.contents self.old piece.now self.new }
 
         // The writer took the whole piece.
         ensures writes { OnOk result (Appends (W.contents (writer_of self.old)) (W.contents (writer_of self.new)) piece.now) }

@@ -32,7 +32,8 @@ module _ (dialect : Dialect) (text : List ℕ) (f : Formula) (is : IsFormula dia
   refused-reply rest r (inl (lines, stop, has, first)) = input_refused is has first
   refused-reply rest r (inr (has, none)) = subst (λ r. JudgeAnswers dialect text rest (refusing r)) (sym none) (no_event is has)
 
-  judged-reply : (rest : List ℕ) (answer : Bool) → IsJudged (names_of dialect text) f rest answer → JudgeAnswers dialect text rest (answer_reply answer)
+  -- the answer on an input is its reply
+  pub judged-reply : (rest : List ℕ) (answer : Bool) → IsJudged (names_of dialect text) f rest answer → JudgeAnswers dialect text rest (answer_reply answer)
   judged-reply rest answer j = subst (λ b. JudgeAnswers dialect text rest (answer_reply b)) (sym j.meets) (judged j.letter j.word is j.has j.events)
 
   -- where there is an answer, an output is due

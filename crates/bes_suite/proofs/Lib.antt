@@ -7,6 +7,7 @@ pub mod MonitorEnds
 pub mod FormulaLemmas
 pub mod Performing
 pub mod JudgeLemmas
+pub mod CallLemmas
 pub mod MonitorLemmas
 pub mod MonitorRuns
 pub mod OpenLemmas

@@ -1,5 +1,5 @@
 -- What a run leaves, by what its command did and how it ended.
-use Rattle.std.proofs.Common.{◌≡◌, ◌≢◌, ◌≤◌, lit≤, arith, ℕ, inl, inr, List, [], length, sym, refl, ◌∙◌, ap, subst, Option}
+use Rattle.std.proofs.Common.{◌≡◌, ◌≢◌, ◌<◌, ◌≤◌, lit≤, arith, ℕ, inl, inr, List, [], length, sym, refl, ◌∙◌, ap, subst, Option, false}
 use Rattle.std.proofs.Math.Seq.{take-length}
 use Rattle.std.specs.Io.KnownBytes.{append_known}
 use Rattle.bes_suite.specs.declared.commands.Command.{Command}
@@ -10,7 +10,7 @@ use Rattle.bes_suite.specs.declared.endings.Refusal.TheVariants.{Usage, Formula,
 use Rattle.bes_suite.specs.Replies.{Reply}
 use Rattle.bes_suite.specs.Commands.{command_of, reads_input, file_of}
 use Rattle.bes_suite.specs.Endings.{status_of, message_of, refusal_status}
-use Rattle.bes_suite.specs.Runs.{Told, Finishes}
+use Rattle.bes_suite.specs.Runs.{unheard_status, Told, Finishes}
 use Rattle.bes_suite.specs.Answers.{Contents, AnswersWith, AnswersAs, MayRead, MayReadAs}
 use Rattle.bes_suite.specs.Streams.{is_streaming, Streams}
 use Rattle.bes_suite.specs.Worlds.{World, Needs, needs_of, Tells, IfNeeded, Performs, NoOutputIsDue, Gives, Adds, AddsPrefix, Counts}
@@ -44,8 +44,16 @@ silent-as words command is files rest before Stays =
     subst (λ c. (Tells (needs_as command words) (MayReadAs command words) before files rest → NoOutputIsDue (AnswersAs command words files rest) → Stays)
     → Tells (needs_as c words) (MayReadAs c words) before files rest → NoOutputIsDue (AnswersAs c words files rest) → Stays) is (λ p. p)
 
+-- and so is the output that it puts, where it doesn't write as it reads
+pub written-as : (words : List (List ℕ)) (command : Command) → command ≡ command_of words → (files : Contents) (rest : List ℕ) (before : World) (Puts : (Reply → Type 0) → Type 0)
+    → (Tells (needs_as command words) (MayReadAs command words) before files rest → is_streaming command ≡ false → Puts (AnswersAs command words files rest))
+    → Tells (needs_of words) (MayRead words) before files rest → is_streaming (command_of words) ≡ false → Puts (AnswersWith words files rest)
+written-as words command is files rest before Puts =
+    subst (λ c. (Tells (needs_as command words) (MayReadAs command words) before files rest → is_streaming command ≡ false → Puts (AnswersAs command words files rest))
+    → Tells (needs_as c words) (MayReadAs c words) before files rest → is_streaming c ≡ false → Puts (AnswersAs c words files rest)) is (λ p. p)
+
 -- the status of a refusal is none of an answer, of a fault or of want of memory
-refusal-status : (r : Refusal) → (2 ≤ refusal_status r) × (refusal_status r ≤ 6)
+pub refusal-status : (r : Refusal) → (2 ≤ refusal_status r) × (refusal_status r ≤ 6)
 refusal-status Usage = (lit≤ tt, lit≤ tt)
 refusal-status (Formula fault) = (lit≤ tt, lit≤ tt)
 refusal-status (TooMany part count) = (lit≤ tt, lit≤ tt)
@@ -53,6 +61,18 @@ refusal-status NoEvent = (lit≤ tt, lit≤ tt)
 refusal-status (Event line fault) = (lit≤ tt, lit≤ tt)
 refusal-status (LineTooLong line) = (lit≤ tt, lit≤ tt)
 refusal-status (InputTooLong line) = (lit≤ tt, lit≤ tt)
+
+unheard-few : (ending : Ending) → unheard_status ending < 2 → ⊥
+unheard-few Positive few = let small : 7 < 2 = few in omega arith
+unheard-few Negative few = let small : 7 < 2 = few in omega arith
+unheard-few (Refused r) few = let small : 7 < 2 = few in omega arith
+unheard-few OutsideFault few = let small : 7 < 2 = few in omega arith
+unheard-few NoMemory few = let small : 8 < 2 = few in omega arith
+
+-- the status of an answer is that of the ending
+pub answer-status : (ending : Ending) (err told : Option (List ℕ)) (was now number : ℕ) → Finishes ending err was told now number → number < 2 → status_of ending < 2
+answer-status ending err told was now number (inl t) few = subst (λ n. n < 2) t.status few
+answer-status ending err told was now number (inr u) few = absurd (unheard-few ending (subst (λ n. n < 2) u.status few))
 
 module _ (needs : Needs) (replies : Reply → Type 0) (may_read : Type 0) (before after : World) (err told : Option (List ℕ)) (was now number : ℕ) where
   gave : (ending : Ending) → Gives replies before after ending → Told ending err was told now number → Gave replies before after err told number

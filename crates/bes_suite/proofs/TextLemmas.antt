@@ -1,14 +1,16 @@
 -- A formula's automaton has one text.
-use Rattle.std.proofs.Common.{◌≡◌, ◌<◌, ◌^◌, ◌++◌, ℕ, zero, suc, List, [], ◌∷◌, refl, sym, ◌∙◌, ap, arith, inl, inr, false, true, map}
+use Rattle.std.proofs.Common.{◌≡◌, ◌<◌, ◌^◌, ◌++◌, ℕ, zero, suc, List, [], ◌∷◌, sym, ◌∙◌, ap, inl, inr, false, true, map}
 use Rattle.std.specs.Prelude.{slice_get, slice_index_or, Some}
 use Rattle.diagrams.specs.declared.cubes.Cube.{Cube}
 use Rattle.diagrams.specs.Tree.{Assignment, put}
 use Rattle.diagrams.specs.Eval.{letter_truth}
 use Rattle.diagrams.specs.Cubes.{AreCubesOf, IsFree, lead, printed_cube}
 use Rattle.automata.specs.Moves.{Moves}
+use Rattle.automata.specs.Listing.{location_lines}
 use Rattle.automata.proofs.Letters.{spelt, spelt-less, spelt-truth}
+use Rattle.automata.proofs.ListingLemmas.{location_lines-same}
 use Rattle.minimise.specs.Minimal.{AreTheSame}
-use Rattle.bes_suite.specs.AutomatonText.{AreLetterCubes, location_lines, ListsMoves}
+use Rattle.bes_suite.specs.AutomatonText.{AreLetterCubes, ListsMoves}
 
 -- both functions have the same values
 abbrev AreEqual : (Assignment → ℕ) → (Assignment → ℕ) → Type 0
@@ -42,22 +44,13 @@ letter-cubes-one p f g e xs ys x y =
         ∙ x.letters (spelt a p) (spelt-less a p) ∙ e (spelt a p) (spelt-less a p) ∙ sym (y.letters (spelt a p) (spelt-less a p))
         ∙ y.over (letter_truth p (spelt a p)) a (λ v l. spelt-truth a p v l)
 
-location_lines-same : (m n : Moves) (x y : ℕ → List Cube) (count : ℕ) → ((at : ℕ) → at < count → m.mark at ≡ n.mark at) → ((at : ℕ) → at < count → x at ≡ y at)
-    → location_lines m x count ≡ location_lines n y count
-location_lines-same m n x y zero marks cubes = refl
-location_lines-same m n x y (suc count) marks cubes =
-    let before = location_lines-same m n x y count (λ at l. marks at (omega (arith, l))) (λ at l. cubes at (omega (arith, l))) in
-    let mark = marks count (omega arith) in
-    let rounds = cubes count (omega arith) in
-    rw (before, mark, rounds) refl
-
 -- automata with the same marks and moves have the same lines
 pub lists-one : (p : ℕ) (m n : Moves) → AreTheSame p m n → (xs ys : List ℕ) → ListsMoves p m xs → ListsMoves p n ys → xs ≡ ys
 lists-one p m n e xs ys x y =
     x.lines
-    ∙ location_lines-same m n x.cubes y.cubes m.size e.mark
+    ∙ location_lines-same m.mark n.mark x.cubes y.cubes m.size e.mark
     (λ at l. letter-cubes-one p (m.next at) (n.next at) (λ a h. e.next at a l h) (x.cubes at) (y.cubes at) (x.rows at l) (y.rows at (rw (sym e.size) l)))
-    ∙ ap (location_lines n y.cubes) e.size ∙ sym y.lines
+    ∙ ap (location_lines n.mark y.cubes) e.size ∙ sym y.lines
 
 -- an item that is got is the one there
 pub got_item : (words : List (List ℕ)) (i : ℕ) (word : List ℕ) → slice_get words i ≡ Some word → slice_index_or words i [] ≡ word

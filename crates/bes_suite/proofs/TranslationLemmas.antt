@@ -1,27 +1,23 @@
 -- A formula is translated in one way.
-use Rattle.std.proofs.Common.{◌≡◌, ℕ, ◌≤◌, List, [], zero, suc, ◌++◌, refl, sym, ◌∙◌, ap, subst, length}
+use Rattle.std.proofs.Common.{◌≡◌, ℕ, ◌≤◌, List, [], suc, refl, sym, ◌∙◌, ap, subst, length}
 use Rattle.std.specs.Prelude.{slice_index, All}
 use Rattle.std.proofs.lemmas.List.{ext_get_or}
 use Rattle.forms.specs.Tree.{Formula}
-use Rattle.forms.specs.Word.{Word, Claim, IsOver}
+use Rattle.forms.specs.Word.{Word}
 use Rattle.forms.specs.Equivalence.{HasClassCount}
 use Rattle.forms.specs.Parts.{part}
 use Rattle.forms.specs.Satisfaction.{meets}
-use Rattle.diagrams.specs.declared.cubes.Cube.{Cube}
 use Rattle.diagrams.specs.Eval.{Diagrams, eval}
-use Rattle.automata.specs.Moves.{Moves}
-use Rattle.automata.specs.Table.{Table, size_of, mark_of, row_of, Fits, moves_of}
-use Rattle.automata.specs.Listing as listing
-use Rattle.automata.specs.Listing.{Lists, location_line, round_lines}
-use Rattle.minimise.specs.Minimal.{IsLeastFor, AreTheSame}
+use Rattle.automata.specs.Table.{Table, size_of, row_of, Fits, moves_of}
+use Rattle.automata.specs.Listing.{Lists}
+use Rattle.minimise.specs.Minimal.{IsLeastFor, IsOnlyFor}
 use Rattle.minimise.proofs.Counts.{size_is_class_count}
 use Rattle.minimise.proofs.Once.{class_count_is_one}
-use Rattle.minimise.proofs.Unique.{least_is_unique}
-use Rattle.minimise.proofs.Smallest.{least_is_smallest}
+use Rattle.minimise.proofs.Only.{least_is_only}
 use Rattle.translate.specs.Exact.{IsLeastOf}
 use Rattle.translate.specs.Counting.{AreCounts, IsFirstOver, IfTooMany, claim_of}
 use Rattle.translate.proofs.CountLemmas.{first_over_is_not_within}
-use Rattle.translate.proofs.MeantLemmas.{agree_of, decides_of}
+use Rattle.translate.proofs.MeantLemmas.{least_for}
 use Rattle.distinguish.specs.Telling.{IsTellingList}
 use Rattle.distinguish.proofs.Unique.{telling_list_is_unique}
 use Rattle.form_reader.specs.declared.dialect.Dialect.{Dialect}
@@ -32,9 +28,9 @@ use Rattle.bes_suite.specs.declared.endings.Refusal.TheVariants as refused
 use Rattle.bes_suite.specs.Formulas.{IsFormula, names_of}
 use Rattle.bes_suite.specs.Worlds.{World, needs_nothing, NoOutputIsDue, Performs, KeepsCounts}
 use Rattle.bes_suite.specs.Limits.{most_classes, ending_at_limit}
-use Rattle.bes_suite.specs.Translation.{TranslateAnswers, too_many, translated, IsTranslation, IsOnlyAutomaton}
+use Rattle.bes_suite.specs.Translation.{TranslateAnswers, too_many, translated, IsTranslation}
 use Rattle.bes_suite.proofs.Performing.{refusal, no-memory}
-use Rattle.bes_suite.specs.AutomatonText.{location_lines, ListsMoves, automaton_text}
+use Rattle.bes_suite.specs.AutomatonText.{ListsMoves, automaton_text}
 use Rattle.bes_suite.proofs.TextLemmas.{lists-one}
 
 -- the parts of a formula have one list of counts
@@ -44,28 +40,16 @@ counts-one p f xs ys x y =
     ext_get_or 0 xs ys size
     (λ i h. class_count_is_one p (claim_of p f (part f (suc i))) (slice_index xs i) (slice_index ys i) (x.count i h) (y.count i (rw (sym size) h)))
 
--- claims with the same traces have one least automaton
-least-one : (p : ℕ) (f g : Claim) (m n : Moves) → ((w : Word) → IsOver p w → f w ≡ g w) → IsLeastFor p m f → IsLeastFor p n g → AreTheSame p m n
-least-one p f g m n e x y =
-    least_is_unique p m n x.least x.numbered y.least y.numbered (agree_of p m n f g x.least.closed y.least.closed x.decides y.decides e)
-
 -- the automaton of a translation is the only one, and none is smaller
-pub only-automaton : (names : List (List ℕ)) (f : Formula) (text : List ℕ) (t : IsTranslation names f text) → IsOnlyAutomaton (length names) f t.automaton
-only-automaton names f text t =
-    let p = length names in
-    record {
-      unique = λ g n same l. least-one p g (λ w. meets p f w) n t.automaton same l t.least;
-      smallest = λ n closed decides.
-          least_is_smallest p t.automaton n t.least.least closed
-          (agree_of p t.automaton n (λ w. meets p f w) (λ w. meets p f w) t.least.least.closed closed t.least.decides decides (λ w o. refl));
-    }
+pub only-automaton : (names : List (List ℕ)) (f : Formula) (text : List ℕ) (t : IsTranslation names f text) → IsOnlyFor (length names) t.automaton (λ w. meets (length names) f w)
+only-automaton names f text t = least_is_only (length names) t.automaton (λ w. meets (length names) f w) t.least
 
 -- a formula has one text
 pub translation-one : (names : List (List ℕ)) (f : Formula) (xs ys : List ℕ) → IsTranslation names f xs → IsTranslation names f ys → xs ≡ ys
 translation-one names f xs ys x y =
     let p = length names in
     let counts = counts-one p f x.counts y.counts x.counted y.counted in
-    let automata = least-one p (λ w. meets p f w) (λ w. meets p f w) x.automaton y.automaton (λ w o. refl) x.least y.least in
+    let automata = (only-automaton names f ys y).unique (λ w. meets p f w) x.automaton (λ w o. refl) x.least in
     let words = telling_list_is_unique p x.automaton y.automaton x.words y.words x.least.least.closed automata x.telling y.telling in
     let tables = lists-one p x.automaton y.automaton automata x.table y.table x.lists y.lists in
     x.whole
@@ -81,10 +65,6 @@ over-or-translated names f part count text over t =
     first_over_is_not_within (length names) f most_classes part count t.automaton.size t.counts over t.counted t.within
     (size_is_class_count (length names) t.automaton (λ w. meets (length names) f w) t.least.least t.least.decides) t.small
 
-same_lines : (s : Diagrams) (t : Table) (cubes : ℕ → List Cube) (n : ℕ) → listing.location_lines t cubes n ≡ location_lines (moves_of s t) cubes n
-same_lines s t cubes zero = refl
-same_lines s t cubes (suc n) = ap (λ z. z ++ location_line n (mark_of t n) ++ round_lines (cubes n)) (same_lines s t cubes n)
-
 -- the lines of a table are those of what it does
 pub lists_moves : (s : Diagrams) (t : Table) (text : List ℕ) → Fits s t → Lists s t (size_of t) text → ListsMoves s.props (moves_of s t) text
 lists_moves s t text fits l = record {
@@ -97,7 +77,7 @@ lists_moves s t text fits l = record {
     are = (l.rows at h).1;
     cubes_printed = (l.rows at h).2;
   };
-  lines = l.lines ∙ same_lines s t l.cubes (size_of t);
+  lines = l.lines;
 }
 
 -- a formula's text, by its automaton in a store
@@ -120,8 +100,7 @@ translation_of p names f n t counts words table text e d counted within least sm
 }
   where
     own : IsLeastFor p (moves_of n t) (λ w. meets p f w)
-    own = subst (λ q. IsLeastFor q (moves_of n t) (λ w. meets p f w)) d
-        (record { least = least.least; numbered = least.numbered; decides = decides_of n t (λ w. meets p f w) least })
+    own = least_for n t (λ w. meets p f w) p d least
 
 -- the text of an automaton is not empty
 text-some : (names : List (List ℕ)) (f : Formula) (counts : List ℕ) (size : ℕ) (table : List ℕ) (words : List Word) → automaton_text names f counts size table words ≡ [] → ⊥

@@ -11,7 +11,7 @@ use Rattle.diagrams.specs.Tree.{Assignment}
 use Rattle.diagrams.specs.Eval.{letter_truth}
 use Rattle.diagrams.specs.Cubes.{AreCubesOf, printed_cube}
 use Rattle.automata.specs.Moves.{Moves}
-use Rattle.automata.specs.Listing.{location_line, round_lines}
+use Rattle.automata.specs.Listing.{location_lines}
 
 -- the first so many names, with a space before each
 abbrev pub name_list : List (List ℕ) → ℕ → List ℕ
@@ -65,16 +65,11 @@ pub record AreLetterCubes (p : ℕ) (f : ℕ → ℕ) (cubes : List Cube) : Type
   pub are : AreCubesOf p 0 value plain
   pub cubes_printed : cubes ≡ map printed_cube plain
 
--- for each of the first so many locations its line and those of its cubes
-abbrev pub location_lines : Moves → (ℕ → List Cube) → ℕ → List ℕ
-location_lines m cubes zero = []
-location_lines m cubes (suc n) = location_lines m cubes n ++ location_line n (m.mark n) ++ round_lines (cubes n)
-
 -- the lines of an automaton's locations
 pub record ListsMoves (p : ℕ) (m : Moves) (text : List ℕ) : Type 0 where
   pub cubes : ℕ → List Cube
   pub rows : (at : ℕ) → at < m.size → AreLetterCubes p (m.next at) (cubes at)
-  pub lines : text ≡ location_lines m cubes m.size
+  pub lines : text ≡ location_lines m.mark cubes m.size
 
 -- the whole text, of these lines for the automaton's locations
 abbrev pub automaton_text : List (List ℕ) → Formula → List ℕ → ℕ → List ℕ → List Word → List ℕ

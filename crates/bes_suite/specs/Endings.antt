@@ -28,7 +28,7 @@ status_of (Refused refusal) = refusal_status refusal
 status_of OutsideFault = 7
 status_of NoMemory = 8
 
--- why a formula is refused, in words
+-- why a formula is refused, in words; no refusal has want of memory, which ends a run in another way
 unfoldable pub form_fault_text : FormFault → List ℕ
 form_fault_text (form.BadByte at) = codes "bad byte at " ++ decimal at
 form_fault_text (form.Unexpected at) = codes "unexpected token at " ++ decimal at

@@ -15,4 +15,5 @@ pub mod Answers
 pub mod Worlds
 pub mod Streams
 pub mod Runs
+pub mod Calls
 pub mod Results

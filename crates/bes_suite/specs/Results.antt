@@ -48,6 +48,6 @@ pub record LeavesMessage (err told : Option (List ℕ)) (was now number : ℕ) :
   pub fault : number ≡ 7 → PutsMessage OutsideFault err told was now
   pub memory : number ≡ 8 → PutsMessage NoMemory err told was now
 
--- a refusal of the words, of the formula, of a limit or of the assumed formula: the input isn't asked before
+-- the status of a refusal that comes before the input is asked
 abbrev pub IsUnread : ℕ → Type 0
 IsUnread number = (number ≡ 2) ⊎ ((number ≡ 3) ⊎ ((number ≡ 5) ⊎ (number ≡ 6)))

@@ -7,9 +7,9 @@ use Rattle.bes_suite.specs.declared.endings.Ending.TheVariants.{NoMemory}
 use Rattle.bes_suite.specs.Endings.{status_of, message_of}
 
 -- the status that stands where the message could not be put
-abbrev pub unheard : Ending → ℕ
-unheard NoMemory = 8
-unheard ending = 7
+abbrev pub unheard_status : Ending → ℕ
+unheard_status NoMemory = 8
+unheard_status ending = 7
 
 -- the message was put, and the status is the ending's
 pub record Told (ending : Ending) (old : Option (List ℕ)) (before : ℕ) (new : Option (List ℕ)) (now number : ℕ) : Type 0 where
@@ -19,7 +19,7 @@ pub record Told (ending : Ending) (old : Option (List ℕ)) (before : ℕ) (new 
 
 -- the message was not put, or in part
 pub record Unheard (ending : Ending) (old : Option (List ℕ)) (before : ℕ) (new : Option (List ℕ)) (now number : ℕ) : Type 0 where
-  pub status : number ≡ unheard ending
+  pub status : number ≡ unheard_status ending
   pub some : message_of ending ≢ []
   pub part : (n : ℕ) × (new ≡ append_known old (take n (message_of ending)))
   pub later : before ≤ now

@@ -1,13 +1,13 @@
 -- What `translate` says of a formula.
 use Rattle.std.specs.Prelude.{◌≡◌, ℕ, ◌≤◌, List, All, length}
 use Rattle.forms.specs.Tree.{Formula}
-use Rattle.forms.specs.Word.{Word, Claim, IsOver}
+use Rattle.forms.specs.Word.{Word}
 use Rattle.forms.specs.Equivalence.{HasClassCount}
 use Rattle.forms.specs.Satisfaction.{meets}
 use Rattle.form_reader.specs.declared.dialect.Dialect.{Dialect}
 use Rattle.form_reader.specs.declared.fault.FormFault.{FormFault}
-use Rattle.automata.specs.Moves.{Moves, IsClosed}
-use Rattle.minimise.specs.Minimal.{IsLeastFor, Decides, AreTheSame}
+use Rattle.automata.specs.Moves.{Moves}
+use Rattle.minimise.specs.Minimal.{IsLeastFor}
 use Rattle.translate.specs.Counting.{AreCounts, IsFirstOver}
 use Rattle.distinguish.specs.Telling.{IsTellingList}
 use Rattle.bes_suite.specs.declared.endings.Ending.TheVariants.{Positive}
@@ -18,7 +18,7 @@ use Rattle.bes_suite.specs.Limits.{most_classes}
 use Rattle.bes_suite.specs.AutomatonText.{ListsMoves, automaton_text}
 
 -- The text of a formula's automaton: the class counts of its parts and of its whole, the least automaton of its
--- traces, numbered by least words, and the words that tell its locations apart.
+-- traces, numbered by least words, so that the first location is 0, and the words that tell its locations apart.
 pub record IsTranslation (names : List (List ℕ)) (f : Formula) (text : List ℕ) : Type 0 where
   pub counts : List ℕ
   pub counted : AreCounts (length names) f counts
@@ -32,12 +32,6 @@ pub record IsTranslation (names : List (List ℕ)) (f : Formula) (text : List �
   pub table : List ℕ
   pub lists : ListsMoves (length names) automaton table
   pub whole : text ≡ automaton_text names f counts automaton.size table words
-
--- the automaton is the same for every claim with the formula's traces, and no automaton that decides them has fewer
--- locations
-pub record IsOnlyAutomaton (p : ℕ) (f : Formula) (m : Moves) : Type 0 where
-  pub unique : (g : Claim) (n : Moves) → ((w : Word) → IsOver p w → g w ≡ meets p f w) → IsLeastFor p n g → AreTheSame p n m
-  pub smallest : (n : Moves) → IsClosed p n → Decides p n (λ w. meets p f w) → m.size ≤ n.size
 
 -- in the order of refusals: the formula, the limit
 pub data TranslateAnswers : Dialect → List ℕ → Reply → Type 0 where

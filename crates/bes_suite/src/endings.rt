@@ -2,6 +2,7 @@
 ghost use Rattle.std.specs.Prelude.{◌≡◌, []};
 ghost use Rattle.bes_suite.specs.Endings.{status_of, refusal_status, message_of};
 ghost use Rattle.bes_suite.specs.Runs.{Finishes};
+ghost use Rattle.bes_suite.specs.Calls.{Asks};
 
 use crate::messages::ending_message;
 use bes_io::Sink;
@@ -43,7 +44,7 @@ pub enum Ending {
     NoMemory,
 }
 
-/// The status of a run: 0 and 1 for an answer, 2 to 6 for a refusal, 7 for a fault of the outside,
+/// The status of a run: 0 and 1 for an answer, 2 to 5 for a refusal, 7 for a fault of the outside,
 /// 8 for want of memory.
 #[derive(Clone, Copy, Debug, PartialEq, Eq)]
 pub struct Status {
@@ -80,6 +81,7 @@ fn number(ending: Ending) -> u8
 pub fn finish<E: Sink>(ending: Ending, err: &mut E) -> Status
     ensures finishes { Finishes ending (E.held err.old) (E.faults err.old) (E.held err.new) (E.faults err.new) result.number }
     ensures quiet { message_of ending ≡ [] → err.new ≡ err.old }
+    ensures asks { Asks E.IsPut (message_of ending) err.old err.new }
 {
     let text = ending_message(ending);
     if text.is_empty() {

@@ -2,11 +2,12 @@
 ghost use Rattle.std.specs.Prelude.{◌≡◌, ℕ, ◌<◌, List, Option, Some, IfErr, length};
 ghost use Rattle.forms.specs.Tree.{Formula, tree};
 ghost use Rattle.forms.specs.Proper.{IsProper};
-ghost use Rattle.bes_suite.specs.Endings.{IsBeforeInput};
+ghost use Rattle.bes_suite.specs.Endings.{IsBeforeInput, status_of};
 ghost use Rattle.bes_suite.specs.Formulas.{IsFormula};
 ghost use Rattle.bes_suite.specs.Judge.{JudgeAnswers, answer_reply, GivesAnswer};
 ghost use Rattle.bes_suite.specs.Letters.{HasTraceCause};
 ghost use Rattle.bes_suite.specs.Answers.{Contents};
+ghost use Rattle.bes_suite.specs.Calls.{IsPutOnce, PutsReply};
 ghost use Rattle.bes_suite.specs.Worlds.{world, needs_input, NoOutputIsDue, Performs, PutsAll};
 
 use crate::endings::{Ending, Refusal};
@@ -44,8 +45,9 @@ fn judge_input<S: Source>(
 
 /// Puts the answer.
 fn put_answer<O: Sink>(answer: bool, out: &mut O) -> Ending
-    ensures { PutsAll (answer_reply answer).output (answer_reply answer).ending
+    ensures ends { PutsAll (answer_reply answer).output (answer_reply answer).ending
         (O.held out.old) (O.faults out.old) (O.held out.new) (O.faults out.new) result }
+    ensures put { O.IsPut out.old (answer_reply answer).output out.new }
 {
     if answer {
         put_all(b"true\n", Ending::Positive, out)
@@ -68,6 +70,9 @@ pub fn judge_formula<S: Source, O: Sink>(
         (world contents failed (S.left input.new) (S.faults input.new) (O.held out.new) (O.faults out.new)) result }
     ensures silent { (rest : List ℕ) → ((f : Formula) × IsFormula dialect text.now f → S.left input.old ≡ Some rest) →
         NoOutputIsDue (JudgeAnswers dialect text.now rest) → out.new ≡ out.old }
+    ensures once { IsPutOnce O.IsPut out.old out.new }
+    ensures written { (rest : List ℕ) → ((f : Formula) × IsFormula dialect text.now f → S.left input.old ≡ Some rest) →
+        PutsReply O.IsPut (JudgeAnswers dialect text.now rest) out.old out.new (status_of result) }
     ensures nothing { result ≡ Ending.NoMemory → out.new ≡ out.old }
     ensures unwritten { S.faults input.old < S.faults input.new → out.new ≡ out.old }
     ensures unread { ¬ ((f : Formula) × IsFormula dialect text.now f) → input.new ≡ input.old }

@@ -11,6 +11,7 @@ ghost use Rattle.bes_suite.specs.Limits.{most_classes};
 ghost use Rattle.bes_suite.specs.OpenedMonitor.{IsOpened, ending_after};
 ghost use Rattle.translate.specs.Counting.{IfTooMany, IsFirstOver};
 ghost use Rattle.bes_suite.specs.Answers.{Contents};
+ghost use Rattle.bes_suite.specs.Calls.{PutsLines};
 ghost use Rattle.bes_suite.specs.Streams.{Streams};
 ghost use Rattle.bes_suite.specs.Worlds.{world, needs_input, NoOutputIsDue, Performs};
 
@@ -54,6 +55,7 @@ fn open(alloc: Global, form: &Form, names: &Names) -> Result<Opened, TranslateFa
 fn put_verdict<O: Sink>(verdict: Verdict, out: &mut O) -> Result<(), Failed>
     ensures bytes { Puts (O.held out.old) (O.held out.new) result (verdict_line (verdict_of verdict)) }
     ensures cause { HasCause (O.faults out.old) (O.faults out.new) result }
+    ensures put { O.IsPut out.old (verdict_line (verdict_of verdict)) out.new }
 {
     match verdict {
         Verdict::PermTrue => out.put(b"perm_true\n"),
@@ -104,6 +106,7 @@ fn monitor_input<S: Source, O: Sink>(
     ensures silent { (f : Formula) → IsOpened store.now monitor names.now.names f → (rest : List ℕ) → S.left input.old ≡ Some rest →
         NoOutputIsDue (IsMonitored names.now.names f rest) → out.new ≡ out.old }
     ensures served { result ≢ Ending.NoMemory }
+    ensures lines { PutsLines O.IsPut out.old out.new }
 {
     let mut reader = LineReader::new(MOST_MONITORED);
     let mut line = 1;
@@ -145,6 +148,7 @@ pub fn monitor_formula<S: Source, O: Sink>(
     ensures nothing { result ≡ Ending.NoMemory → out.new ≡ out.old }
     ensures served { result ≡ Ending.NoMemory → input.new ≡ input.old }
     ensures unread { ¬ IsFormulaWithinLimit dialect text.now → input.new ≡ input.old }
+    ensures lines { PutsLines O.IsPut out.old out.new }
 {
     let (form, names) = match read_formula(alloc, dialect, text) {
         Ok(read) => read,

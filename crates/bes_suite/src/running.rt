@@ -1,12 +1,16 @@
 //! The top call.
 ghost use Rattle.std.specs.Prelude.{◌≡◌, ◌≢◌, ℕ, ◌<◌, ◌⊎◌, List, [], Some, None, IsTrue, false, length};
 ghost use Rattle.forms.specs.Tree.{Formula};
+ghost use Rattle.forms.specs.Satisfaction.{meets};
+ghost use Rattle.minimise.specs.Minimal.{IsOnlyFor};
 ghost use Rattle.bes_suite.specs.Replies.{Reply};
-ghost use Rattle.bes_suite.specs.Translation.{IsTranslation, IsOnlyAutomaton};
+ghost use Rattle.bes_suite.specs.Translation.{IsTranslation};
 ghost use Rattle.bes_suite.specs.Commands.{command_of, reads_input, file_of};
 ghost use Rattle.bes_suite.specs.Results.{IsAnswered, Partial, HasFaultCause, HasMessageCause, CountsStand, LeavesMessage, IsUnread};
 ghost use Rattle.bes_suite.specs.Answers.{AnswersWith, MayRead, Contents};
 ghost use Rattle.bes_suite.specs.Runs.{Finishes};
+ghost use Rattle.bes_suite.specs.Calls.{IsPutOnce, PutsReply, PutsLines, Asks};
+ghost use Rattle.bes_suite.specs.Endings.{status_of, message_of};
 ghost use Rattle.bes_suite.specs.Streams.{is_streaming, Streams};
 ghost use Rattle.bes_suite.specs.Worlds.{world, needs_of, Tells, Gains, IfNeeded, NoOutputIsDue, Performs};
 
@@ -41,6 +45,11 @@ fn perform<F: Files, S: Source, O: Sink>(
     ensures nothing { result ≡ Ending.NoMemory → out.new ≡ out.old }
     ensures unwritten { is_streaming (command_of words.now) ≡ false → S.faults input.old < S.faults input.new → out.new ≡ out.old }
     ensures served { IsTrue (is_streaming (command_of words.now)) → result ≡ Ending.NoMemory → input.new ≡ input.old }
+    ensures once { is_streaming (command_of words.now) ≡ false → IsPutOnce O.IsPut out.old out.new }
+    ensures written { (contents : Contents) (rest : List ℕ) →
+        Tells (needs_of words.now) (MayRead words.now) (world (F.contents files.old) (F.failed files.old) (S.left input.old) (S.faults input.old) (O.held out.old) (O.faults out.old)) contents rest →
+        is_streaming (command_of words.now) ≡ false → PutsReply O.IsPut (AnswersWith words.now contents rest) out.old out.new (status_of result) }
+    ensures lines { IsTrue (is_streaming (command_of words.now)) → PutsLines O.IsPut out.old out.new }
     ensures usage { command_of words.now ≡ Command.Usage → result ≡ Ending.Refused Refusal.Usage }
     ensures unread { ¬ MayRead words.now → input.new ≡ input.old }
     ensures unopened { file_of (command_of words.now) words.now ≡ None → files.new ≡ files.old }
@@ -80,7 +89,7 @@ pub fn run<F: Files, S: Source, O: Sink, E: Sink>(
     // The automaton that `translate` prints is the same for every formula over the same names in the same order with
     // the same traces, and no automaton of these traces is smaller.
     ensures only_automaton { (names : List (List ℕ)) (f : Formula) (text : List ℕ) (t : IsTranslation names f text) →
-        IsOnlyAutomaton (length names) f t.automaton }
+        IsOnlyFor (length names) t.automaton (λ w. meets (length names) f w) }
 
     // Status 7 comes only where a count rose, and of the place for messages only where one was asked for.
     ensures fault { HasFaultCause (needs_of words.now) (MayRead words.now)
@@ -110,6 +119,14 @@ pub fn run<F: Files, S: Source, O: Sink, E: Sink>(
     ensures nothing { result.number ≡ 8 → out.new ≡ out.old }
     ensures unwritten { is_streaming (command_of words.now) ≡ false → S.faults input.old < S.faults input.new → out.new ≡ out.old }
 
+    // A whole output is put in one call, that of a reply which is asked for, and after an answer it was
+    // put. `monitor` puts each line in one call.
+    ensures once { is_streaming (command_of words.now) ≡ false → IsPutOnce O.IsPut out.old out.new }
+    ensures written { (contents : Contents) (rest : List ℕ) →
+        Tells (needs_of words.now) (MayRead words.now) (world (F.contents files.old) (F.failed files.old) (S.left input.old) (S.faults input.old) (O.held out.old) (O.faults out.old)) contents rest →
+        is_streaming (command_of words.now) ≡ false → PutsReply O.IsPut (AnswersWith words.now contents rest) out.old out.new result.number }
+    ensures lines { IsTrue (is_streaming (command_of words.now)) → PutsLines O.IsPut out.old out.new }
+
     // Where the input's count of faults rose, a command that writes as it reads has put what is due for the whole lines
     // that were taken. Where the output's count rose, it failed at one line: what is due for the lines before the one
     // that it needs was put, and fewer than 4,097 bytes were taken past that one. Once such a command reads, it takes
@@ -129,8 +146,10 @@ pub fn run<F: Files, S: Source, O: Sink, E: Sink>(
         result.number }
     ensures messages { result.number ≢ 7 → result.number ≢ 8 → E.faults err.new ≡ E.faults err.old }
 
-    // The run ends in some way, whose status it answers and whose message it puts, whole but at a fault.
-    ensures ends { (ending : Ending) × Finishes ending (E.held err.old) (E.faults err.old) (E.held err.new) (E.faults err.new) result.number }
+    // The run ends in some way, whose status it answers and whose message it puts in one call, whole but
+    // at a fault; where there is none it makes no call.
+    ensures ends { (ending : Ending) × Finishes ending (E.held err.old) (E.faults err.old) (E.held err.new) (E.faults err.new) result.number
+        × Asks E.IsPut (message_of ending) err.old err.new }
 
     // After 7 and 8 the message of the status was put, or at a fault a prefix of one message; after an answer none
     // was.

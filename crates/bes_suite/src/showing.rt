@@ -4,6 +4,8 @@ ghost use Rattle.forms.specs.Tree.{tree};
 ghost use Rattle.forms.specs.Proper.{IsProper};
 ghost use Rattle.bes_suite.specs.Showing.{FormsAnswers, form_lines};
 ghost use Rattle.bes_suite.specs.Answers.{Contents};
+ghost use Rattle.bes_suite.specs.Calls.{PutsReply};
+ghost use Rattle.bes_suite.specs.Endings.{status_of};
 ghost use Rattle.bes_suite.specs.Worlds.{world, needs_nothing, NoOutputIsDue, Performs};
 
 use crate::endings::Ending;
@@ -38,6 +40,7 @@ pub fn show_formula<O: Sink>(alloc: Global, dialect: Dialect, text: &[u8], out: 
         (world contents failed left reads (O.held out.old) (O.faults out.old))
         (world contents failed left reads (O.held out.new) (O.faults out.new)) result }
     ensures silent { NoOutputIsDue (FormsAnswers dialect text.now) → out.new ≡ out.old }
+    ensures written { PutsReply O.IsPut (FormsAnswers dialect text.now) out.old out.new (status_of result) }
     ensures nothing { result ≡ Ending.NoMemory → out.new ≡ out.old }
 {
     let (form, names) = match read_formula(alloc, dialect, text) {

@@ -6,6 +6,8 @@ ghost use Rattle.translate.specs.Counting.{IfTooMany, IsFirstOver};
 ghost use Rattle.bes_suite.specs.Limits.{most_classes};
 ghost use Rattle.bes_suite.specs.Translation.{TranslateAnswers, IsTranslation};
 ghost use Rattle.bes_suite.specs.Answers.{Contents};
+ghost use Rattle.bes_suite.specs.Calls.{PutsReply};
+ghost use Rattle.bes_suite.specs.Endings.{status_of};
 ghost use Rattle.bes_suite.specs.Worlds.{world, needs_nothing, NoOutputIsDue, Performs};
 
 use crate::automaton_text::whole_text;
@@ -57,6 +59,7 @@ pub fn translate_formula<O: Sink>(
         (world contents failed left reads (O.held out.old) (O.faults out.old))
         (world contents failed left reads (O.held out.new) (O.faults out.new)) result }
     ensures silent { NoOutputIsDue (TranslateAnswers dialect text.now) → out.new ≡ out.old }
+    ensures written { PutsReply O.IsPut (TranslateAnswers dialect text.now) out.old out.new (status_of result) }
     ensures nothing { result ≡ Ending.NoMemory → out.new ≡ out.old }
 {
     let (form, names) = match read_formula(alloc, dialect, text) {

@@ -5,6 +5,7 @@ pub mod Growth
 pub mod Table
 pub mod Kept
 pub mod Expansion
+pub mod Literals
 pub mod CofactorLemmas
 pub mod Works
 pub mod Finite

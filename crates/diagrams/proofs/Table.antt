@@ -38,7 +38,7 @@ get-push_old (x ∷ xs) n m zero e = e
 get-push_old (x ∷ xs) n m (suc k) e = get-push_old xs n m k e
 
 -- the one more stands after the others
-pub get-push_new : (xs : List Look) (n : Look) → slice_get (xs ++ n ∷ []) (length xs) ≡ Some n
+pub get-push_new : {A : Type 0} (xs : List A) (n : A) → slice_get (xs ++ n ∷ []) (length xs) ≡ Some n
 get-push_new [] n = refl
 get-push_new (x ∷ xs) n = get-push_new xs n
 

@@ -1,8 +1,7 @@
 -- What the empty word tells apart.
-use Rattle.std.proofs.Common.{◌≡◌, ◌≢◌, ◌<◌, ◌≤◌, ◌⊎◌, ℕ, zero, suc, List, [], ◌∷◌, refl, sym, ◌∙◌, ap, arith, inl, inr, length, replicate, true}
+use Rattle.std.proofs.Common.{◌≡◌, ◌≢◌, ◌<◌, ◌≤◌, ◌⊎◌, ℕ, zero, suc, List, [], ◌∷◌, refl, sym, ◌∙◌, ap, arith, inl, inr, length, true}
 use Rattle.std.specs.Prelude.{slice_index, slice_index_or}
 use Rattle.std.proofs.lemmas.Bool.{cases_eq, true≢false}
-use Rattle.std.proofs.lemmas.List.{get_or-replicate}
 use Rattle.std.proofs.lemmas.List.Elements.{All-nil, All-cons}
 use Rattle.forms.specs.Word.{Word}
 use Rattle.forms.specs.Shortlex.{has_lesser_letters, comes_before}
@@ -10,9 +9,7 @@ use Rattle.forms.proofs.ShortlexLemmas.{before-cases}
 use Rattle.automata.specs.Moves.{Moves, mark_after, IsClosed}
 use Rattle.automata.specs.Table.{Table, size_of, mark_of, moves_of}
 use Rattle.automata.proofs.Words.{over-nil}
-use Rattle.diagrams.specs.declared.top.Id.{Id}
-use Rattle.diagrams.specs.Eval.{Diagrams, id_at}
-use Rattle.minimise.specs.Divisions.{IsDivision}
+use Rattle.diagrams.specs.Eval.{Diagrams}
 use Rattle.minimise.specs.Rounds.{IsDivided}
 use Rattle.distinguish.specs.Telling.{IsLeastDistinguishing, IsLeastForSome}
 use Rattle.distinguish.specs.Columns.{IsColumn}
@@ -115,15 +112,3 @@ module _ (s : Diagrams) (t : Table) (blocks : List ℕ) (c : IsClosed s.props (m
       only : (k : ℕ) → k < 1 → IsColumn (moves_of s t) (slice_index_or ([] ∷ []) k []) (slice_index_or (column ∷ []) k [])
       only zero h = record { size = size; mark = marks }
       only (suc k) h = absurd (omega (arith, h))
-
--- where all rows are one, blocks go by marks
-pub division_by_marks : (t : Table) (rows : List Id) (blocks : List ℕ) (row : Id) → rows ≡ replicate (size_of t) row → IsDivision t rows blocks → IsByMarks t blocks
-division_by_marks t rows blocks row e d = record {
-  size = d.size;
-  low = d.low;
-  mark = λ at h. (d.key at h).0;
-  one = λ i j h l q. d.one i j h l (q, all i h ∙ sym (all j l));
-}
-  where
-    all : (i : ℕ) → i < size_of t → id_at rows i ≡ row
-    all i h = ap (λ xs. id_at xs i) e ∙ get_or-replicate (size_of t) i row (record { 0 = 0 }) h

@@ -1,7 +1,7 @@
 -- The least letter at which two diagrams differ, by their parts.
 use Rattle.std.proofs.Common.{◌≡◌, ◌≢◌, ◌<◌, ◌≤◌, ◌+◌, ◌-◌, ◌^◌, ℕ, suc, true, false, if◌then◌else◌, sym, ◌∙◌, ap, arith, inl, inr, Some}
 use Rattle.std.proofs.lemmas.Bool.{cases_lt, cases_eq}
-use Rattle.std.proofs.lemmas.Nat.{pow_pos, pow_below}
+use Rattle.std.proofs.lemmas.Nat.{pow_below}
 use Rattle.std.proofs.Math.Nat.{pow-suc}
 use Rattle.diagrams.specs.declared.top.Id.{Id}
 use Rattle.diagrams.specs.declared.top.Look.{Look}
@@ -9,9 +9,9 @@ use Rattle.diagrams.specs.declared.top.Look.TheVariants.{Terminal, Node}
 use Rattle.diagrams.specs.Tree.{put}
 use Rattle.diagrams.specs.Eval.{Diagrams, top_of, limit, eval, letter_truth}
 use Rattle.diagrams.specs.Live.{IsCanonical}
-use Rattle.diagrams.specs.Cofactors.{var_of, IsLeastVariable, IsTerminal}
+use Rattle.diagrams.specs.Cofactors.{var_of, IsLeastVariable}
 use Rattle.diagrams.proofs.Canon.{put-alike}
-use Rattle.diagrams.proofs.Meaning.{live-above, eval-terminal, tree-node, same_id_by_value}
+use Rattle.diagrams.proofs.Meaning.{live-above, tree-node, same_id_by_value}
 use Rattle.diagrams.proofs.CofactorLemmas.{AreCofactors, low-value, high-value}
 use Rattle.diagrams.proofs.Expansion.{depends_from_stands, vars_below}
 use Rattle.diagrams.proofs.LetterBits.{own_low, own_high, later_same}
@@ -23,10 +23,6 @@ pow_le i j h = elim (cases_eq i j) [ inl e ↦ rw (e) (omega arith) | inr n ↦ 
 -- a number below the weight of proposition v is a letter with that weight added
 pub high_less : (p n v a : ℕ) → v + suc n ≡ p → a < 2 ^ n → 2 ^ n + a < 2 ^ p
 high_less p n v a e h = let double = pow-suc 2 n in let up = pow_le (suc n) p (omega (arith, e)) in omega (arith, double, up, h)
-
--- and without it
-pub low_less : (p n v a : ℕ) → v + suc n ≡ p → a < 2 ^ n → a < 2 ^ p
-low_less p n v a e h = let up = pow_le n p (omega (arith, e)) in omega (arith, up, h)
 
 -- a diagram at a letter whose proposition v is false, and at one whose is true
 low_letter : (s : Diagrams) (n v l : ℕ) (f lo hi : Id) → v + suc n ≡ s.props → AreCofactors s v f lo hi → l < 2 ^ n
@@ -69,19 +65,6 @@ difference_high s c n v a f g fl fh gl gh e p q h same d = record {
         ∙ ap (λ i. eval s g (letter_truth s.props i)) (sym is)
   ];
 }
-
--- two constants
-pub difference_none : (s : Diagrams) → IsCanonical s → (f g : Id) (ft gt : Look) → top_of s f ≡ Some ft → top_of s g ≡ Some gt → IsTerminal ft × IsTerminal gt → f ≢ g
-    → IsLeastDifference s f g 0
-difference_none s c f g (Terminal x) (Terminal y) ef eg t n = record {
-  within = pow_pos s.props;
-  differ = λ z.
-      let e : x ≡ y = sym (eval-terminal s f x ef (letter_truth s.props 0)) ∙ z ∙ eval-terminal s g y eg (letter_truth s.props 0) in
-      n (c.unique f g (Terminal x) ef (eg ∙ ap (λ w. Some (Terminal w)) (sym e)));
-  least = λ b h. absurd (omega (arith, h));
-}
-difference_none s c f g (Terminal x) (Node v lo hi) ef eg t n = absurd (t.1)
-difference_none s c f g (Node v lo hi) gt ef eg t n = absurd (t.0)
 
 -- the part of a diagram over propositions where v is false is such a diagram
 pub low_over : (s : Diagrams) → IsCanonical s → (v : ℕ) (f lo hi : Id) → AreCofactors s v f lo hi → IsOverLetters s f → IsOverLetters s lo

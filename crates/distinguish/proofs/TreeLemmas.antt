@@ -17,6 +17,7 @@ use Rattle.distinguish.specs.Trees.{IsBelow, here, down, IsBranch, IsTreeFor}
 use Rattle.distinguish.proofs.ListLemmas.{any_left}
 use Rattle.distinguish.proofs.RoundLemmas.{step_same}
 use Rattle.distinguish.proofs.WordLemmas.{least_swap}
+use Rattle.minimise.proofs.DivisionLemmas.{some_same}
 
 -- of the least words that tell i from x and from y, one that comes before the other is the least that tells x from y
 earlier_tells : (p : ℕ) (m : Moves) (i x y : ℕ) (u v : Word) → IsLeastDistinguishing p m i x u → IsLeastDistinguishing p m i y v → comes_before u v ≡ true
@@ -35,9 +36,6 @@ place_once words order i j k e h =
 
 cons_parts : (a b : ℕ) (u v : Word) → a ∷ u ≡ b ∷ v → (a ≡ b) × (u ≡ v)
 cons_parts a b u v e = (cc, cc)
-
-some_once : (x y : ℕ) → Some x ≡ Some y → x ≡ y
-some_once x y e = cc
 
 none_some : (x : ℕ) → None ≡ Some x → ⊥
 none_some x e = cc
@@ -141,7 +139,7 @@ module _ (p : ℕ) (m : Moves) (blocks next : List ℕ) (words : List Word) (ord
       | inl a ↦ inl a
       | inr r ↦ elim (told_or_below p m blocks next words order target steps at from x step (λ i t s z. (tree.branch i t s z).listed) b.listed f r) [
         | inl a ↦ inl a
-        | inr z ↦ inr (subst (IsBelow p m words target x) (some_once z.0 to (sym z.1 ∙ e)) z.2)
+        | inr z ↦ inr (subst (IsBelow p m words target x) (some_same z.0 to (sym z.1 ∙ e)) z.2)
       ]
     ];
     way = λ more has r. w.way more has (down f (has (record { from = from; step = step }) to e) r);
@@ -198,7 +196,7 @@ module _ (p : ℕ) (m : Moves) (blocks next : List ℕ) (words : List Word) (ord
           let b = branch_true (record { from = from; step = step }) (record { from = i; step = s }) q in
           let begin : from ≡ i = ap (λ z. z.from) b in
           let own : step ≡ s = ap (λ z. z.step) b in
-          let end : at ≡ to = some_once at to (sym new-branch ∙ ap new b ∙ e) in
+          let end : at ≡ to = some_same at to (sym new-branch ∙ ap new b ∙ e) in
           record {
             later = omega (arith, w.lesser, begin, end);
             within = omega (arith, end);

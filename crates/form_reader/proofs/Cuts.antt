@@ -1,7 +1,7 @@
 -- How a text is cut, piece by piece, where each piece is known.
 use Rattle.std.proofs.Common.{◌≡◌, ℕ, zero, suc, ◌+◌, ◌-◌, ◌≤◌, List, [], ◌∷◌, ◌++◌, Some, refl, sym, ap, ◌∙◌, arith, Bool, true, false, ◌&&◌, cond, eqb, length, take, subst, inl, inr, ◌⊎◌, ◌≢◌, add-zero}
 use Rattle.std.proofs.Math.Seq.{take-append_seam}
-use Rattle.std.proofs.lemmas.Bool.{leb-true}
+use Rattle.std.proofs.lemmas.Bool.{leb-true, or_parts}
 use Rattle.std.proofs.lemmas.Bool.Decides.{eqb_tells}
 use Rattle.std.specs.List.{list_all}
 use Rattle.form_reader.specs.declared.dialect.Dialect.{Dialect}
@@ -11,7 +11,6 @@ use Rattle.form_reader.specs.Spelling.{Lexeme, Sign, Word, Bad, Piece, piece_at,
 use Rattle.form_reader.specs.Names.{is_listed}
 use Rattle.form_reader.specs.Faults.{token_of}
 use Rattle.form_reader.specs.Reading.{tokens}
-use Rattle.form_reader.proofs.NamesLemmas.{or-left}
 use Rattle.form_reader.proofs.Propositional.{and-left, and-right}
 
 -- no byte that goes on a word stands at the front
@@ -82,7 +81,7 @@ pieces-front d b v rest x at blank piece =
 -- a sign at the front
 pub Gives-sign : {d : Dialect} {ns : List (List ℕ)} {rest : List ℕ} {ts : List Token} (b : ℕ) (v : List ℕ) (t : Token) → goes_on b ≡ false → is_blank b ≡ false → sign_at d (b ∷ (v ++ rest)) ≡ Some (t, suc (length v)) → Gives d ns rest ts → Gives d ns (b ∷ (v ++ rest)) (t ∷ ts)
 Gives-sign {d} {ns} {rest} {ts} b v t apart blank sign g =
-    let begins : begins_word b ≡ false = or-left _ _ apart in
+    let begins : begins_word b ≡ false = (or_parts _ _ apart).0 in
     let piece : piece_at d (b ∷ (v ++ rest)) ≡ record { lexeme = Sign t; size = suc (length v) } = rw (begins, sign) refl in
     Gives-lexeme (b ∷ (v ++ rest)) (Sign t) t (suc (length v)) (λ at. pieces-front d b v rest (Sign t) at blank piece ∙ ap (λ w. (at, Sign t) ∷ pieces d zero w (at + suc (length v)) rest) begins) tt refl g
 

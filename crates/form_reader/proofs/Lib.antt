@@ -9,6 +9,7 @@ pub mod Measures
 pub mod Turns
 pub mod Outcomes
 pub mod Pieces
+pub mod Signs
 pub mod NamesLemmas
 pub mod NamesAfter
 pub mod Texts

@@ -1,7 +1,7 @@
 -- Names in the order of the set that holds them.
 use Rattle.std.proofs.Common.{◌≡◌, ℕ, suc, ◌+◌, ◌≤◌, ◌<◌, List, [], ◌∷◌, ◌++◌, Some, None, refl, sym, ap, ◌∙◌, arith, Bool, true, false, ◌||◌, cond, not, nat_lt, leb, length, map, position, inl, inr, ◌⊎◌}
 use Rattle.std.proofs.lemmas.Bool.Decides.{leb_tells}
-use Rattle.std.proofs.lemmas.Bool.{le-ltb, lt-ltb}
+use Rattle.std.proofs.lemmas.Bool.{le-ltb, lt-ltb, or_parts}
 use Rattle.std.proofs.lemmas.List.{length-map, map-append, length-append}
 use Rattle.std.proofs.lemmas.List.Folds.{list_any-append}
 use Rattle.std.proofs.lemmas.List.Elements.{All-push}
@@ -21,15 +21,6 @@ position_or_len-map p f (x ∷ xs) = ap (λ n. cond (not (p (f x))) (1 + n) 0) (
 -- where a name stands in the list that the set shows
 pub position-map : {A B : Type 0} (p : B → Bool) (f : A → B) (xs : List A) → position p (map f xs) ≡ position (λ x. p (f x)) xs
 position-map p f xs = rw (position_or_len-map p f xs, length-map)
-
--- neither of the two
-pub or-left : (a b : Bool) → (a || b) ≡ false → a ≡ false
-or-left true b e = cc
-or-left false b e = refl
-
-or-right : (a b : Bool) → (a || b) ≡ false → b ≡ false
-or-right true b e = cc
-or-right false b e = e
 
 -- an item of a mapped list passes a test exactly where one of the list passes it after the map
 pub list_any-map : {A B : Type 0} (p : B → Bool) (f : A → B) (xs : List A) → list_any p (map f xs) ≡ list_any (λ x. p (f x)) xs
@@ -81,9 +72,8 @@ bytes_eq-false u v e = go (bytes_eq v u) refl
 AreDifferent-push : (ns : List (List ℕ)) (w : List ℕ) → AreDifferent ns → is_listed ns w ≡ false → AreDifferent (ns ++ w ∷ [])
 AreDifferent-push [] w h e = (refl, tt)
 AreDifferent-push (n ∷ ns) w h e =
-    let here : bytes_eq w n ≡ false = or-left _ _ e in
-    let there : is_listed ns w ≡ false = or-right (bytes_eq w n) _ e in
-    (list_any-append (bytes_eq n) ns (w ∷ []) ∙ rw (h.0, bytes_eq-false w n here), AreDifferent-push ns w h.1 there)
+    let apart = or_parts (bytes_eq w n) _ e in
+    (list_any-append (bytes_eq n) ns (w ∷ []) ∙ rw (h.0, bytes_eq-false w n apart.0), AreDifferent-push ns w h.1 apart.1)
 
 -- the names of a table with a new one
 pub AreNames-push : (ns ms : List (List ℕ)) (w : List ℕ) → AreNames ns → length ns < most_names → is_listed ns w ≡ false → is_name w ≡ true → ms ≡ ns ++ w ∷ [] → AreNames ms

@@ -73,7 +73,8 @@ front-goes_on (b ∷ bs) = go (goes_on b) refl (front-goes_on bs)
     go true e h = rw e h
     go false e h = refl
 
-word_length-le : (bs : List ℕ) → word_length bs ≤ length bs
+-- a run of bytes that go on is no longer than the bytes
+pub word_length-le : (bs : List ℕ) → word_length bs ≤ length bs
 word_length-le [] = omega arith
 word_length-le (b ∷ bs) = go (goes_on b) (word_length-le bs)
   where

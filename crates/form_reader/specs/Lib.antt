@@ -4,6 +4,7 @@ pub mod Grammar
 pub mod Waiting
 pub mod Admitted
 pub mod Spelling
+pub mod Signs
 pub mod Faults
 pub mod Reading
 pub mod Machine

@@ -59,7 +59,7 @@ word_lexeme d w =
     else if is_unused w then Sign token.Reserved
     else Word w
 
--- the sign of one byte that LDLf alone has
+-- the sign of one byte that LDLf alone has: < > [ ] { } ; + * ?
 abbrev pub path_sign : ℕ → Option Token
 path_sign b =
     if b == 60 then Some (token.OpenModality modalities.Diamond)
@@ -84,7 +84,7 @@ abbrev pub dialect_sign : Dialect → ℕ → Option (Token × ℕ)
 dialect_sign dialects.Ltlf b = None
 dialect_sign dialects.Ldlf b = of_one_byte (path_sign b)
 
--- the sign at the front, and how many bytes it has
+-- the sign at the front, and how many bytes it has: of ( ) ! ~ & && | || -> <-> and those of the dialect
 abbrev pub sign_at : Dialect → List ℕ → Option (Token × ℕ)
 sign_at d bs =
     let b = slice_index bs 0 in

@@ -28,8 +28,8 @@ pub fn print_form(alloc: Global, form: &Form, names: &Names) -> Result<Text, Mem
     ensures reads_elsewhere { IfOk result (λ text. (others : Table) → AreNumberedIn names.now.names others.names
         → ReadsBack others text (tree form.now)) }
 {
-    // Reading back rests on the names being different, which this call says.
-    let _ = names.len();
+    // Reading back rests on the names being different, which `len` ensures.
+    prove!(names.len() <= 32);
     let mut text = Text::new(alloc);
     print(&mut text, form, names)?;
     Ok(text)

@@ -4,9 +4,9 @@ use Rattle.std.specs.Prelude.{◌&&◌, ◌||◌, not}
 use Rattle.std.proofs.lemmas.Bool.{and_parts, and_from, or_cases, or_left, or_right, ltb-true, lt-ltb}
 use Rattle.forms.specs.Word.{Word, Claim, same, some_suffix}
 use Rattle.forms.specs.Paths.{WordRelation, turns, star}
-use Rattle.forms.specs.Tree.{Program, Step, Choice, Star}
+use Rattle.forms.specs.Tree.{Program, Step, Star}
 use Rattle.forms.specs.Satisfaction.{sat, goes}
-use Rattle.forms.specs.PathLaws.{DiamondHolds, BoxHolds, StepGoes, TestGoes, ChoiceGoes, SeqGoes, StarGoes, GoesToSuffixes, IsReflexive, IsTransitive, IsIncludedIn, StarIsClosure}
+use Rattle.forms.specs.PathLaws.{DiamondHolds, BoxHolds, StepGoes, TestGoes, SeqGoes, StarGoes, GoesToSuffixes, IsReflexive, IsTransitive, IsIncludedIn, StarIsClosure}
 use Rattle.forms.proofs.Suffixes.{some_suffix-find, some_suffix-from, every_suffix-at, every_suffix-from, same-refl, same-true}
 use Rattle.forms.proofs.Leads.{reaches-find, reaches-from, star-unrolled, IsInward-goes}
 use Rattle.forms.proofs.Further.{IsSuffix-cases}
@@ -58,14 +58,6 @@ test_goes p g u v = (
   λ h. (let k = and_parts _ _ h in (sym (same-true u v k.0), k.1)),
   λ (e, h). and_from _ _ (let P : Word → Type 0 = λ x. same u x ≡ true in subst P (sym e) (same-refl u)) h,
 )
-
--- a choice goes as one of its two paths does
-pub choice_goes : ChoiceGoes
-choice_goes p q r u v = (λ h. or_cases _ _ h, back)
-  where
-    back : (goes p q u v ≡ true) ⊎ (goes p r u v ≡ true) → goes p (Choice q r) u v ≡ true
-    back (inl h) = or_left _ _ h
-    back (inr h) = or_right (goes p q u v) _ h
 
 -- a sequence goes by some suffix, to which the first path goes and from which the second does
 pub seq_goes : SeqGoes

@@ -64,11 +64,9 @@ rows_now s n t blocks rows k f r = record {
       };
 }
 
-some_same : (x y : ℕ) → Some x ≡ Some y → x ≡ y
+-- two options that are the same number have one
+pub some_same : (x y : ℕ) → Some x ≡ Some y → x ≡ y
 some_same x y e = cc
-
-none_some : (x : ℕ) → None ≡ Some x → ⊥
-none_some x e = cc
 
 option_cases : (o : Option ℕ) → (o ≡ None) ⊎ ((x : ℕ) × (o ≡ Some x))
 option_cases None = inl refl
@@ -85,17 +83,6 @@ pub record IsDividing {S : Type 0} (t : Table) (rows : List Id) (firsts : HashMa
   pub key : (at : ℕ) → at < count → key_of t rows (slice_index blocks at) ≡ key_of t rows at
   pub known : (at : ℕ) → at < count → get same_key firsts (key_of t rows at) ≡ Some (slice_index blocks at)
   pub right : (k : Key) (x : ℕ) → get same_key firsts k ≡ Some x → (x < count) × (key_of t rows x ≡ k)
-
--- before the first location nothing is divided
-pub dividing_none : {S : Type 0} → (t : Table) (rows : List Id) (firsts : HashMap Key ℕ S) (blocks : List ℕ) → blocks ≡ []
-    → ((k : Key) → get same_key firsts k ≡ None) → IsDividing t rows firsts blocks 0
-dividing_none t rows firsts blocks e none = record {
-  size = ap length e;
-  low = λ at h. absurd (omega (arith, h));
-  key = λ at h. absurd (omega (arith, h));
-  known = λ at h. absurd (omega (arith, h));
-  right = λ k x q. absurd (none_some x (sym (none k) ∙ q));
-}
 
 -- the first location of a key comes no later, and has the key
 record IsFirstOf (t : Table) (rows : List Id) (at x : ℕ) : Type 0 where
@@ -158,18 +145,6 @@ dividing_more t rows old new blocks at x d e up = record {
       | inr s ↦ up (key_of t rows i) ∙ ap (λ b. if b then Some x else get same_key old (key_of t rows i)) s ∙ d.known i h
     ]
 
--- once every location is divided, the blocks are a division by marks and rows
-pub dividing_all : {S : Type 0} → (t : Table) (rows : List Id) (firsts : HashMap Key ℕ S) (blocks : List ℕ) (count : ℕ) → count ≡ size_of t
-    → IsDividing t rows firsts blocks count → IsDivision t rows blocks
-dividing_all t rows firsts blocks count all d = record {
-  size = d.size ∙ all;
-  low = λ at h. d.low at (rw (all) h);
-  key = λ at h. let k = d.key at (rw (all) h) in (ap (λ z. z.mark) k, ap (λ z. z.row) k);
-  one = λ i j h l e.
-      let k : key_of t rows i ≡ key_of t rows j = λ z. record { mark = e.0 z; row = e.1 z } in
-      some_same (slice_index blocks i) (slice_index blocks j) (sym (d.known i (rw (all) h)) ∙ ap (get same_key firsts) k ∙ d.known j (rw (all) l));
-}
-
 -- blocks of equal keys go by the marks and the rows
 pub division_goes : (t : Table) (rows : List Id) (blocks : List ℕ) → IsDivision t rows blocks → GoesByRows t (id_at rows) (slice_index blocks)
 division_goes t rows blocks d = record {
@@ -187,6 +162,7 @@ terminals_are_targets s size f xs r t = record {
       let letter = spelt a s.props in
       let same : eval s f a ≡ eval s f (letter_truth s.props letter) = r.letters a (letter_truth s.props letter) (λ v l. sym (spelt-truth a s.props v l)) in
       rw (same) (t.all letter (spelt-less a s.props));
+  led = λ k h. let l = t.each k h in (letter_truth s.props l.0, l.1.value);
   within = λ k h. let l = (t.each k h) in rw (← l.1.value) (r.targets (letter_truth s.props l.0));
 }
 
@@ -194,6 +170,7 @@ terminals_are_targets s size f xs r t = record {
 pub targets_last : (s n : Diagrams) → Keeps s n → (size : ℕ) (f : Id) (xs : List ℕ) → IsLive s f → AreTargets s size f xs → AreTargets n size f xs
 targets_last s n k size f xs h t = record {
   all = λ a. rw (eval-lasts s n k.was k.now k.extends f h a) (t.all a);
+  led = λ i l. let x = t.led i l in (x.0, eval-lasts s n k.was k.now k.extends f h x.0 ∙ x.1);
   within = t.within;
 }
 

@@ -9,3 +9,4 @@ pub mod Counts
 pub mod Once
 pub mod Smallest
 pub mod Unique
+pub mod Only

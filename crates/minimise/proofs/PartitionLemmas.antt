@@ -10,6 +10,7 @@ use Rattle.minimise.specs.declared.blocks.Key.{Key}
 use Rattle.minimise.specs.Blocks.{blocks_among, IsInOrder, same_key, IsPartition}
 use Rattle.minimise.proofs.BlockLemmas.{among-new, among-old, blocks_are_few}
 use Rattle.automata.proofs.FindingLemmas.{place_cases}
+use Rattle.diagrams.proofs.Table.{get-push_new}
 
 -- keys that are the same are equal
 pub key_true : (x y : Key) → same_key x y ≡ true → x ≡ y
@@ -34,11 +35,6 @@ pub get-push_before : (ks : List Key) (x : Key) (i : ℕ) → i < length ks → 
 get-push_before [] x i h = absurd (omega (arith, h))
 get-push_before (y ∷ ks) x zero h = refl
 get-push_before (y ∷ ks) x (suc i) h = get-push_before ks x i (omega (arith, h))
-
--- a key at the end comes after all others
-pub get-push_at : (ks : List Key) (x : Key) → slice_get (ks ++ x ∷ []) (length ks) ≡ Some x
-get-push_at [] x = refl
-get-push_at (y ∷ ks) x = get-push_at ks x
 
 -- what an insertion leaves: the key where it was, or at the end
 IsInserted : List Key → List Key → Key → ℕ → Type 0
@@ -134,7 +130,7 @@ push_once ks x o n a b k e q =
     split i z = let w = slice_get_within (ks ++ x ∷ []) i k z in place_cases i (length ks) (omega (arith, w, length-append ks (x ∷ [])))
 
     last : (i : ℕ) → i ≡ length ks → slice_get (ks ++ x ∷ []) i ≡ Some k → Some x ≡ Some k
-    last i h z = sym (ap (slice_get (ks ++ x ∷ [])) h ∙ get-push_at ks x) ∙ z
+    last i h z = sym (ap (slice_get (ks ++ x ∷ [])) h ∙ get-push_new ks x) ∙ z
 
 -- one more key in its block
 pub partition_more : (keys : List Key) (bs : List ℕ) (old new : List Key) (count : ℕ) (key : Key) (b : ℕ) → IsPartition keys bs old count → count < length keys

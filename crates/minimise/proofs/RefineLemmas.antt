@@ -12,7 +12,7 @@ use Rattle.minimise.specs.declared.blocks.Key.{Key}
 use Rattle.minimise.specs.Blocks.{IsPartition}
 use Rattle.minimise.specs.Rounds.{IsDivided, IsRelabelled, AreKeys, IsRefined, IsRefining}
 use Rattle.minimise.proofs.BlockLemmas.{within, member, finer_has_more}
-use Rattle.minimise.proofs.PartitionLemmas.{get-push_at, push_lasts}
+use Rattle.minimise.proofs.PartitionLemmas.{push_lasts}
 use Rattle.minimise.proofs.RoundLemmas.{IsRound, round_divides, round_is_finer}
 use Rattle.minimise.proofs.RowLemmas.{AreRelabelled, GoesByRows, rows_make_round}
 use Rattle.minimise.proofs.QuotientLemmas.{IsQuotient, divided_is_least, quotient_marks}
@@ -22,6 +22,7 @@ use Rattle.automata.specs.Moves.{HaveSameMarks}
 use Rattle.automata.specs.Numbering.{IsNumbered}
 use Rattle.automata.specs.Subautomaton.{IsSubautomaton}
 use Rattle.minimise.specs.Minimal.{IsLeast}
+use Rattle.diagrams.proofs.Table.{get-push_new}
 
 abbrev id_in : Option Key → Id
 id_in None = record { 0 = 0 }
@@ -224,7 +225,7 @@ keys_more s n t blocks keys count x id k e m = record {
     | inl h ↦ let y = k.key i h in (y.0, push_lasts keys _ i _ y.1, y.2)
     | inr h ↦ (
       id,
-      ap (slice_get (keys ++ record { mark = x; row = id } ∷ [])) (h ∙ sym k.size) ∙ get-push_at keys _ ∙ (λ d. Some (record { mark = (e ∙ ap (mark_of t) (sym h)) d; row = id })),
+      ap (slice_get (keys ++ record { mark = x; row = id } ∷ [])) (h ∙ sym k.size) ∙ get-push_new keys _ ∙ (λ d. Some (record { mark = (e ∙ ap (mark_of t) (sym h)) d; row = id })),
       rw (h) m,
     )
   ];

@@ -22,9 +22,10 @@ pub record IsDivision (t : Table) (rows : List Id) (blocks : List ℕ) : Type 0 
   pub key : (at : ℕ) → at < size_of t → HaveOneKey t rows (slice_index blocks at) at
   pub one : (i j : ℕ) → i < size_of t → j < size_of t → HaveOneKey t rows i j → slice_index blocks i ≡ slice_index blocks j
 
--- the list has each location to which f leads, and locations before size alone
+-- the list has each location to which f leads, and those alone; they are before size
 pub record AreTargets (s : Diagrams) (size : ℕ) (f : Id) (xs : List ℕ) : Type 0 where
   pub all : (a : Assignment) → Contains xs (eval s f a)
+  pub led : (k : ℕ) → k < length xs → (a : Assignment) × (eval s f a ≡ slice_index xs k)
   pub within : (k : ℕ) → k < length xs → slice_index xs k < size
 
 -- the list of one location

@@ -29,6 +29,11 @@ pub record AreTheSame (p : ℕ) (m n : Moves) : Type 0 where
   pub mark : (at : ℕ) → at < m.size → m.mark at ≡ n.mark at
   pub next : (at a : ℕ) → at < m.size → a < 2 ^ p → m.next at a ≡ n.next at a
 
+-- every numbered least automaton of the claim's words is this one, and no automaton that decides the claim has fewer locations
+pub record IsOnlyFor (p : ℕ) (m : Moves) (f : Claim) : Type 0 where
+  pub unique : (g : Claim) (n : Moves) → ((w : Word) → IsOver p w → g w ≡ f w) → IsLeastFor p n g → AreTheSame p n m
+  pub smallest : (n : Moves) → IsClosed p n → Decides p n f → m.size ≤ n.size
+
 -- a least automaton has as many locations as its claim has classes of equivalent words (Nerode 1958)
 abbrev pub SizeIsClassCount : Type 0
 SizeIsClassCount = (p : ℕ) (m : Moves) (f : Claim) → IsLeast p m → Decides p m f → HasClassCount p f m.size

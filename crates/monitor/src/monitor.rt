@@ -42,7 +42,7 @@ fn leads_only_to(store: &Store, row: Id, at: u32) -> bool
 }
 
 impl Monitor {
-    /// The monitor of the claim whose words the automaton accepts, before the first letter. The error is want of memory.
+    /// The monitor of the claim whose words the automaton accepts, before the first letter.
     pub fn new(_alloc: Global, store: &Store, whole: Automaton) -> Result<Monitor, Memory>
         requires fits { Fits store.now whole }
         requires marks { (at : ℕ) → at < size_of whole → mark_of whole at < 2 }

@@ -70,13 +70,6 @@ depends_both s p count f d e a b same =
 pub grows_refl : (c : List Id) → Grows c c
 grows_refl c = record { longer = omega arith; same = λ at h. refl }
 
--- what goes on twice goes on
-pub grows_trans : (a b c : List Id) → Grows a b → Grows b c → Grows a c
-grows_trans a b c x y = record {
-  longer = let h = x.longer in let k = y.longer in omega arith;
-  same = λ at h. let k = x.longer in y.same at (omega arith) ∙ x.same at h;
-}
-
 -- claims stay claims as the store grows
 pub claims_last : (s n : Diagrams) → Keeps s n → (count : ℕ) (claims : List Id) → AllClaims s count claims → AllClaims n count claims
 claims_last s n k count claims all at h = claim_lasts s n k count (id_at claims at) (all at h)
@@ -123,13 +116,6 @@ cut_lasts s n k count c d g all f row u = cuts_now s n k d f row u.live (cuts_la
 -- and so do those in a memo
 pub kept_cut_lasts : (s n : Diagrams) → Keeps s n → (count : ℕ) (c d : List Id) → Grows c d → AllClaims s count c → (m : Memo Id) → AllKept same_id (IsCut s c) m → AllKept same_id (IsCut n d) m
 kept_cut_lasts s n k count c d g all m r = kept_weaker same_id (IsCut s c) (IsCut n d) m (λ f row u. cut_lasts s n k count c d g all f row u) r
-
-before_cases : (v w : ℕ) → (v < w → ⊥) → w ≤ v
-before_cases v w n =
-    elim (cases_Bool (nat_lt v w)) [
-      | inl t ↦ let l : v < w = grind (arith, nat_tests) in absurd (n l)
-      | inr t ↦ grind (arith, nat_tests)
-    ]
 
 -- a diagram that depends on variables above v has its top above v
 pub top_after : (s : Diagrams) → IsCanonical s → (v w : ℕ) (f lo hi : Id) → top_of s f ≡ Some (Node w lo hi) → DependsOn s f (λ x. v < x) → v < w

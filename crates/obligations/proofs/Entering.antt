@@ -32,18 +32,16 @@ use Rattle.obligations.specs.Inclusion.{AllBelow, all_later}
 use Rattle.obligations.specs.Entered.{Asks, AllAsk, AllAreLater, entered_value, Enters, IsEntered}
 use Rattle.obligations.proofs.Holds.{claim_lasts}
 use Rattle.obligations.proofs.Cuts.{lo_depends, hi_depends}
+use Rattle.diagrams.proofs.Literals.{number_small}
+
+-- a place before the end of a longer list, but not before that of the shorter, is the last
+pub last_place : (at count : ℕ) → at < count + 1 → nat_lt at count ≡ false → count ≡ at
+last_place at count h t = let g : count ≤ at = grind (arith, nat_tests) in omega arith
 
 -- what is asked of the next position, in a grown store
 pub all_later-lasts : (s n : Diagrams) → n.props ≡ s.props → (base : ℕ) (a : Assignment) (ats : List ℕ) → all_later n base a ats ≡ all_later s base a ats
 all_later-lasts s n e base a [] = refl
 all_later-lasts s n e base a (at ∷ ats) = rw (e, all_later-lasts s n e base a ats) refl
-
--- nothing is asked for no locations
-pub asks_none : (n : Diagrams) (base size : ℕ) (i : Id) → Means n i (λ _. 1) → Asks n base size [] i
-asks_none n base size i m = record {
-  claim = record { live = m.live; over = λ a b same. m.value a ∙ sym (m.value b); truth = λ a. rw (m.value a) (omega arith) };
-  value = λ a. rw (m.value a) refl;
-}
 
 -- what is asked in a store is asked in a later one
 pub asks_last : (s n : Diagrams) → Keeps s n → (base size : ℕ) (ats : List ℕ) (i : Id) → Asks s base size ats i → Asks n base size ats i
@@ -52,17 +50,13 @@ asks_last s n k base size ats i x = record {
   value = λ a. rw (eval-lasts s n k.was k.now k.extends i x.claim.live a) (x.value a ∙ sym (all_later-lasts s n k.extends.props base a ats));
 }
 
-literal_small : (b : Bool) → (if b then 1 else 0) < 2
-literal_small true = omega arith
-literal_small false = omega arith
-
 min_small : (x y : ℕ) → y < 2 → min x y < 2
 min_small x y h = elim (cases_lt x y) [ inl l ↦ omega arith | inr l ↦ omega arith ]
 
 -- both are 0 or 1
 pub can_ask : (s m : Diagrams) → Keeps s m → (base size v : ℕ) (ats : List ℕ) (next whole : Id) → Means m next (λ a. if a v then 1 else 0) → Asks s base size ats whole → CanCombine m And next whole
 can_ask s m k base size v ats next whole l x a =
-    (rw (l.value a) (literal_small (a v)), rw (eval-lasts s m k.was k.now k.extends whole x.claim.live a) (x.claim.truth a))
+    (rw (l.value a) (number_small (a v)), rw (eval-lasts s m k.was k.now k.extends whole x.claim.live a) (x.claim.truth a))
 
 and_one : (b : Bool) (w : ℕ) → w < 2 → (min (if b then 1 else 0) w == 1) ≡ (b && (w == 1))
 and_one true zero h = refl
@@ -111,10 +105,6 @@ below_at size [] k b h = absurd (omega arith)
 below_at size (at ∷ ats) zero b h = b.0
 below_at size (at ∷ ats) (suc k) b h = below_at size ats k b.1 (omega arith)
 
--- no diagram yet
-pub all_ask_none : (s : Diagrams) (base size : ℕ) (wider : ℕ → List ℕ) (items : List Id) → items ≡ [] → AllAsk s base size wider items 0
-all_ask_none s base size wider items e = record { number = ap length e; each = λ at h. absurd (omega arith) }
-
 -- one diagram more
 pub all_ask_next : (s n : Diagrams) → Keeps s n → (base size : ℕ) (wider : ℕ → List ℕ) (items : List Id) (count : ℕ) (id : Id) → AllAsk s base size wider items count → Asks n base size (wider count) id
     → AllAsk n base size wider (items ++ id ∷ []) (count + 1)
@@ -134,13 +124,6 @@ all_ask_next s n k base size wider items count id x y =
                 rw (r, ← l) y
           ];
     }
-  where
-    last_place : (at count : ℕ) → at < count + 1 → nat_lt at count ≡ false → count ≡ at
-    last_place at count h t = let g : count ≤ at = grind (arith, nat_tests) in omega arith
-
--- items that are asked are claims
-pub ask_claims : (s : Diagrams) (base size : ℕ) (wider : ℕ → List ℕ) (items : List Id) (count : ℕ) → AllAsk s base size wider items count → AllClaims s (base + size) items
-ask_claims s base size wider items count x at h = let e = x.number in (x.each at (omega arith)).claim
 
 -- items that are claims depend on obligations alone
 pub claims_later : (s : Diagrams) (count : ℕ) (items : List Id) → AllClaims s count items → AllAreLater s items

@@ -6,7 +6,7 @@ use Rattle.diagrams.specs.declared.top.Look.TheVariants.{Node}
 use Rattle.diagrams.specs.Tree.{Assignment}
 use Rattle.diagrams.specs.Eval.{Diagrams, top_of, eval, tree}
 use Rattle.diagrams.specs.Live.{IsCanonical, Keeps}
-use Rattle.diagrams.specs.Composed.{IsObligation, AllTruths, IsOverObligations, replaced, Composes}
+use Rattle.diagrams.specs.Composed.{IsObligation, AllTruths, replaced, Composes}
 use Rattle.diagrams.proofs.Canon.{tree_size}
 use Rattle.diagrams.proofs.Meaning.{eval-lasts, eval-node, live-above}
 use Rattle.diagrams.proofs.CofactorLemmas.{own}
@@ -59,10 +59,6 @@ bodies_truth s c bodies f b k h =
     let l : k < length c = rw b.count at h in
     let body = f k l in
     rw (b.each k l) (record { live = body.live; truth = body.truth })
-
--- a claim is over as many obligations as there are bodies
-pub claim_over : (s : Diagrams) (c : List Obligation) (bodies : List Id) (claim : Id) → HasBodies c bodies → IsClaim s (length c) claim → IsOverObligations s (length bodies) claim
-claim_over s c bodies claim b q = rw b.count q.over
 
 -- what a claim composes to is a body
 pub whole_body : (s n : Diagrams) → Keeps s n → (c : List Obligation) (bodies : List Id) → FitsCells s c → HasBodies c bodies → (claim whole : Id) → IsClaim s (length c) claim → Composes s n bodies claim whole → IsBody n (length c) whole

@@ -5,5 +5,5 @@ pub mod InclusionLemmas
 pub mod Explored
 pub mod Exploring
 mod Entering
-mod Stands
+pub mod Stands
 mod Simulating

@@ -1,6 +1,6 @@
 -- Relations that rows and marks keep, and the lists that are made of them.
-use Rattle.std.proofs.Common.{◌≡◌, ℕ, zero, suc, ◌<◌, ◌≤◌, ◌+◌, ◌-◌, ◌*◌, ◌++◌, Bool, true, false, if◌then◌else◌, List, [], ◌∷◌, length, map, refl, sym, ◌∙◌, ap, arith, inl, inr, eq-eqb, Some, Result, IfOk}
-use Rattle.std.specs.Prelude.{nat_lt, ◌==◌, ◌&&◌, ◌||◌, slice_index_or, Contains}
+use Rattle.std.proofs.Common.{◌≡◌, ℕ, zero, suc, ◌<◌, ◌≤◌, ◌+◌, ◌-◌, ◌++◌, Bool, true, false, if◌then◌else◌, List, [], ◌∷◌, length, map, refl, sym, ◌∙◌, ap, arith, inl, inr, eq-eqb, Some, Result, IfOk}
+use Rattle.std.specs.Prelude.{nat_lt, ◌==◌, slice_index_or, Contains}
 use Rattle.std.specs.HashSet as set
 use Rattle.std.specs.HashSet.{HashSet}
 use Rattle.std.proofs.lemmas.Bool.Decides.{nat_tests}
@@ -14,18 +14,16 @@ use Rattle.diagrams.specs.Eval.{Diagrams, top_of, eval, letter_truth}
 use Rattle.diagrams.specs.Live.{IsCanonical}
 use Rattle.diagrams.proofs.Meaning.{eval-terminal, live-above}
 use Rattle.diagrams.proofs.CofactorLemmas.{AreCofactors, low-value, high-value}
-use Rattle.std.proofs.lemmas.Bool.{cases_Bool, and_parts, eqb-true}
+use Rattle.std.proofs.lemmas.Bool.{cases_Bool, and_parts, eqb-true, or_right}
 use Rattle.diagrams.proofs.Works.{id_true}
 use Rattle.automata.specs.Table.{Table, size_of, mark_of, row_of, next_of}
 use Rattle.obligations.specs.declared.simulation.Compared.{Compared}
-use Rattle.obligations.specs.Inclusion.{accepts_from, all_accept, AllBelow, AllSimulate, IsSimulation, IsWider}
+use Rattle.obligations.specs.Inclusion.{accepts_from, all_accept, AllBelow, AllSimulate, IsSimulation}
 use Rattle.obligations.specs.Followed.{wider_of}
-use Rattle.obligations.specs.Related.{Pairs, related, LeadsBelow, LeadsWithin, same_compared, IsKnown, IsNoted, IsSimulated, AreSimulated, or_same, AreSimulators, AcceptsAll, IsWiderAt}
+use Rattle.obligations.specs.Related.{Pairs, related, LeadsBelow, LeadsWithin, same_compared, IsKnown, IsNoted, AreSimulated, or_same, AreSimulators, AcceptsAll, IsWiderAt}
 use Rattle.obligations.proofs.InclusionLemmas.{all_simulate}
-
--- constants lead where the relation says
-pub leads_terminal : (s : Diagrams) (R : ℕ → ℕ → Bool) (f g : Id) (x y : ℕ) → top_of s f ≡ Some (Terminal x) → top_of s g ≡ Some (Terminal y) → R x y ≡ true → LeadsWithin s R f g
-leads_terminal s R f g x y ef eg h a = rw (eval-terminal s f x ef a, eval-terminal s g y eg a) h
+use Rattle.obligations.proofs.Entering.{last_place}
+use Rattle.std.proofs.Math.Bool.{and-false}
 
 -- the low part of a diagram leads below what the diagram leads below
 pub low_below : (s : Diagrams) → IsCanonical s → (size v : ℕ) (f lo hi : Id) → AreCofactors s v f lo hi → LeadsBelow s size f → LeadsBelow s size lo
@@ -72,17 +70,6 @@ module _ {S : Type 0} where
   pub known_same : (s : Diagrams) (R : ℕ → ℕ → Bool) (old new : HashSet Compared S) → ((other : Compared) → set.contains same_compared new other ≡ set.contains same_compared old other) → IsKnown s R old → IsKnown s R new
   known_same s R old new same known pair h = known pair (sym (same pair) ∙ h)
 
-last_place : (at count : ℕ) → at < count + 1 → nat_lt at count ≡ false → count ≡ at
-last_place at count h t = let g : count ≤ at = grind (arith, nat_tests) in omega arith
-
--- one location more is simulated by those to which it is related
-pub simulated_next : (s : Diagrams) (t : Table) (R : ℕ → ℕ → Bool) (x count : ℕ) → AreSimulated s t R x count → (R x count ≡ true → IsSimulated s t R x count) → AreSimulated s t R x (count + 1)
-simulated_next s t R x count all here y h r =
-    elim (cases_Bool (nat_lt y count)) [
-      | inl u ↦ let l : y < count = grind (arith, nat_tests) in all y l r
-      | inr u ↦ let e : count ≡ y = last_place y count h u in rw (← e) (here (rw (← e) at r))
-    ]
-
 -- those of one location more are
 pub rounds_next : (s : Diagrams) (t : Table) (r q : Pairs) (x : ℕ) → 0 < x → q ≡ r → ((y : ℕ) → x ≤ y → y < size_of t → AreSimulated s t (related r) y (size_of t))
     → AreSimulated s t (related q) (x - 1) (size_of t) → (y : ℕ) → x - 1 ≤ y → y < size_of t → AreSimulated s t (related q) y (size_of t)
@@ -94,27 +81,6 @@ rounds_next s t r q x some e all here y h l =
   where
     before_last : (x y : ℕ) → 0 < x → x - 1 ≤ y → nat_lt y x ≡ true → x - 1 ≡ y
     before_last x y some h u = let g : y < x = grind (arith, nat_tests) in omega arith
-
--- each pair that is related lies within
-pub related_within : (r : Pairs) (x y : ℕ) → related r x y ≡ true → (x < r.size) × (y < r.size)
-related_within r x y e =
-    let p = and_parts (nat_lt x r.size && nat_lt y r.size) (slice_index_or r.pairs (x * r.size + y) false) e in
-    let q = and_parts (nat_lt x r.size) (nat_lt y r.size) p.0 in
-    let a = q.0 in
-    let b = q.1 in
-    (grind (arith, nat_tests), grind (arith, nat_tests))
-
--- where all that are related are simulated, the relation is a simulation
-pub simulation_from : (s : Diagrams) (t : Table) (r : Pairs) → r.size ≡ size_of t → ((x : ℕ) → x < size_of t → AreSimulated s t (related r) x (size_of t)) → IsSimulation s t (related r)
-simulation_from s t r e all =
-    let each : (x y : ℕ) → related r x y ≡ true → IsSimulated s t (related r) x y =
-    λ x y h. let w = related_within r x y h in all x (rw (← e) w.0) y (rw (← e) w.1) h in
-    record { marks = λ x y h. (each x y h).marks; rows = λ x y h. (each x y h).rows }
-
--- one of two holds
-pub or_right : (b c : Bool) → c ≡ true → (b || c) ≡ true
-or_right true c e = refl
-or_right false c e = e
 
 -- a simulation with each location beside itself is one
 pub simulation_or_same : (s : Diagrams) (t : Table) (R : ℕ → ℕ → Bool) → IsSimulation s t R → IsSimulation s t (or_same R)
@@ -135,11 +101,7 @@ simulation_or_same s t R i = record {
 one_lacks : (s : Diagrams) (t : Table) (w : List ℕ) (x : ℕ) (list : List ℕ) (k : ℕ) → k < length list → slice_index_or list k x ≡ x → accepts_from s t x w ≡ false → all_accept s t w list ≡ false
 one_lacks s t w x [] k h e n = absurd (omega arith)
 one_lacks s t w x (y ∷ ys) zero h e n = rw (e, n) refl
-one_lacks s t w x (y ∷ ys) (suc k) h e n = rw (one_lacks s t w x ys k (omega arith) e n) (and_false (accepts_from s t y w))
-  where
-    and_false : (b : Bool) → (b && false) ≡ false
-    and_false true = refl
-    and_false false = refl
+one_lacks s t w x (y ∷ ys) (suc k) h e n = rw (one_lacks s t w x ys k (omega arith) e n) (and-false (accepts_from s t y w))
 
 -- a location accepts what all of some that simulate it accept, itself among them
 wider_among : (s : Diagrams) (t : Table) (R : ℕ → ℕ → Bool) → IsSimulation s t R → (x : ℕ) (list : List ℕ) → AllSimulate R x list → Contains list x → (w : List ℕ) → all_accept s t w list ≡ accepts_from s t x w
@@ -162,28 +124,12 @@ pub simulators_wider_ok : {X E : Type 0} (r : Result X E) (view : X → List ℕ
 simulators_wider_ok r view s t R size x e i =
     IfOk-weaker r (λ list. AreSimulators R size x (view list)) (λ list. IsWiderAt s t x (view list)) (λ list a. simulators_wider s t R size x (view list) e i a)
 
--- a location itself alone
-pub alone_wider : (s : Diagrams) (t : Table) (at : ℕ) (list : List ℕ) → at < size_of t → list ≡ at ∷ [] → IsWiderAt s t at list
-alone_wider s t at list h e = rw e (record { within = (h, tt); same = λ w. and_one (accepts_from s t at w) })
-  where
-    and_one : (b : Bool) → (b && true) ≡ b
-    and_one true = refl
-    and_one false = refl
-
--- nothing is asked where every word is accepted
-pub none_wider : (s : Diagrams) (t : Table) (at : ℕ) (list : List ℕ) → list ≡ [] → AcceptsAll s t at → IsWiderAt s t at list
-none_wider s t at list e all = rw e (record { within = tt; same = λ w. sym (all w) })
-
 -- a location with the mark 1 that leads to itself accepts every word
 pub accepts_all_at : (s : Diagrams) (t : Table) (at : ℕ) → top_of s (row_of t at) ≡ Some (Terminal at) → (mark_of t at == 1) ≡ true → AcceptsAll s t at
 accepts_all_at s t at e m [] = m
 accepts_all_at s t at e m (letter ∷ w) =
     let to : next_of s t at letter ≡ at = eval-terminal s (row_of t at) at e (letter_truth s.props letter) in
     ap (λ x. accepts_from s t x w) to ∙ accepts_all_at s t at e m w
-
--- lists that are wider at each location are wider
-pub wider_each : (s : Diagrams) (t : Table) (lists : List (List ℕ)) → ((at : ℕ) → at < size_of t → IsWiderAt s t at (wider_of lists at)) → IsWider s t (wider_of lists)
-wider_each s t lists each = record { within = λ at h. (each at h).within; same = λ at w h. (each at h).same w }
 
 -- one list more
 pub lists_next : {X : Type 0} (view : X → List ℕ) (P : ℕ → List ℕ → Type 0) (lists : List X) (count : ℕ) (x : X) → length lists ≡ count

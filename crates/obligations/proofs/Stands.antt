@@ -1,15 +1,15 @@
 -- Tables of obligations to which those of locations are added.
-use Rattle.std.proofs.Common.{◌≡◌, ℕ, ◌<◌, ◌≤◌, ◌+◌, ◌++◌, Bool, true, false, List, [], ◌∷◌, length, length-append, refl, sym, ◌∙◌, ap, arith, inl, inr}
+use Rattle.std.proofs.Common.{◌≡◌, ℕ, ◌<◌, ◌+◌, true, false, List, [], ◌∷◌, length, refl, sym, ◌∙◌, ap, arith, inl, inr}
 use Rattle.std.specs.Prelude.{nat_lt, ◌==◌, ◌≢◌, slice_index_or, slice_set}
 use Rattle.std.proofs.lemmas.Bool.Decides.{nat_tests}
-use Rattle.std.proofs.lemmas.List.{get_or_append_left, get_or_at, get_or-set_same, get_or-set_other, length-set}
+use Rattle.std.proofs.lemmas.List.{get_or-set_same, get_or-set_other, length-set}
 use Rattle.diagrams.specs.declared.top.Id.{Id}
 use Rattle.diagrams.specs.Eval.{Diagrams, eval}
-use Rattle.diagrams.specs.Live.{IsCanonical, Keeps, Means}
+use Rattle.diagrams.specs.Live.{Keeps}
 use Rattle.diagrams.specs.Eval.{id_at}
-use Rattle.diagrams.proofs.Meaning.{eval-lasts, Keeps_trans, Keeps_refl, means_lasts}
+use Rattle.diagrams.proofs.Meaning.{eval-lasts, Keeps_trans, means_lasts}
 use Rattle.std.proofs.lemmas.Bool.{cases_Bool}
-use Rattle.automata.specs.Table.{Table, size_of, mark_of, row_of, Fits}
+use Rattle.automata.specs.Table.{Table, size_of, row_of, Fits}
 use Rattle.automata.proofs.Lasts.{fits_lasts, mark_after-lasts}
 use Rattle.obligations.specs.declared.cells.Obligation.{Obligation}
 use Rattle.obligations.specs.Table.{missing, ends_of, body_of, with_body}
@@ -18,70 +18,17 @@ use Rattle.obligations.specs.Located.{AllClaims}
 use Rattle.obligations.specs.Inclusion.{accepts_from, all_later, all_accept, AllBelow, Follows, IsWider}
 use Rattle.obligations.specs.Followed.{HasFrom, GoesOn, StandsFor}
 use Rattle.obligations.specs.Entered.{AllAsk, AllAreLater, entered_value, Enters, HasEnds, HasOtherBodies, AllEnter}
-use Rattle.obligations.proofs.Holds.{body_lasts, body_wider}
+use Rattle.obligations.proofs.Holds.{body_lasts}
 use Rattle.obligations.proofs.InclusionLemmas.{cell-location}
-use Rattle.obligations.proofs.Entering.{all_later-lasts, claims_later, entered_now, enters_body}
-
-last_place : (at count : ℕ) → at < count + 1 → nat_lt at count ≡ false → count ≡ at
-last_place at count h t = let g : count ≤ at = grind (arith, nat_tests) in omega arith
+use Rattle.obligations.proofs.Entering.{all_later-lasts, claims_later, entered_now, enters_body, last_place}
 
 -- a table goes on as itself
 pub goes_on_refl : (c : List Obligation) → GoesOn c c
 goes_on_refl c = record { longer = omega arith; same = λ j h l. refl }
 
--- with one obligation more
-pub goes_on_next : (c d e : List Obligation) (x : Obligation) → GoesOn c d → e ≡ d ++ x ∷ [] → GoesOn c e
-goes_on_next c d e x g q = rw q (record {
-  longer = let h = g.longer in rw length-append (omega arith);
-  same = λ j h l. let k = g.longer in get_or_append_left d (x ∷ []) missing j (omega arith) ∙ g.same j h l;
-})
-
--- a constant body that never holds
-never_body : (s : Diagrams) (count : ℕ) (f : Id) → Means s f (λ _. 0) → IsBody s count f
-never_body s count f m = record { live = m.live; over = λ x y same. m.value x ∙ sym (m.value y); truth = λ a. rw (m.value a) (omega arith) }
-
--- a table with one more obligation, which never holds
-pub fits_next : (s : Diagrams) (c d : List Obligation) (ends : Bool) (f : Id) → FitsCells s c → Means s f (λ _. 0) → d ≡ c ++ record { ends = ends; body = f } ∷ [] → FitsCells s d
-fits_next s c d ends f fits m e =
-    let x : Obligation = record { ends = ends; body = f } in
-    let number : length (c ++ x ∷ []) ≡ length c + 1 = length-append c (x ∷ []) in
-    rw e (λ j h.
-    elim (cases_Bool (nat_lt j (length c))) [
-      | inl t ↦
-          let l : j < length c = grind (arith, nat_tests) in
-          let r : body_of (c ++ x ∷ []) j ≡ body_of c j = ap (λ v. v.body) (get_or_append_left c (x ∷ []) missing j l) in
-          rw r (body_wider s (length c) (length (c ++ x ∷ [])) (body_of c j) (omega arith) (fits j l))
-      | inr t ↦
-          let l : length c ≡ j = last_place j (length c) (omega arith) t in
-          let r : body_of (c ++ x ∷ []) j ≡ f = ap (λ v. v.body) (get_or_at c x [] missing j l) in
-          rw r (never_body s (length (c ++ x ∷ [])) f m)
-    ])
-
 -- no location has its end value yet
 pub ends_none : (c : List Obligation) (t : Table) → HasEnds c t (length c) 0
 ends_none c t = record { number = omega arith; ends = λ at h. absurd (omega arith) }
-
--- one location more has it
-pub ends_next : (c d : List Obligation) (t : Table) (base count : ℕ) (ends : Bool) (f : Id) → HasEnds c t base count → ends ≡ (mark_of t count == 1)
-    → d ≡ c ++ record { ends = ends; body = f } ∷ [] → HasEnds d t base (count + 1)
-ends_next c d t base count ends f x e q =
-    let last : Obligation = record { ends = ends; body = f } in
-    let number : length (c ++ last ∷ []) ≡ length c + 1 = length-append c (last ∷ []) in
-    let n = x.number in
-    rw q (record {
-      number = omega arith;
-      ends = λ at h.
-          elim (cases_Bool (nat_lt at count)) [
-            | inl u ↦
-                let l : at < count = grind (arith, nat_tests) in
-                let k : base + at < length c = omega arith in
-                ap (λ v. v.ends) (get_or_append_left c (last ∷ []) missing (base + at) k) ∙ x.ends at l
-            | inr u ↦
-                let l : count ≡ at = last_place at count h u in
-                let k : length c ≡ base + at = omega arith in
-                ap (λ v. v.ends) (get_or_at c last [] missing (base + at) k) ∙ rw (← l) e
-          ];
-    })
 
 -- what stands while bodies are set: those of the first so many locations are
 pub record IsSetting (s0 s : Diagrams) (c d : List Obligation) (t : Table) (base : ℕ) (items : List Id) (count : ℕ) : Type 0 where
@@ -89,15 +36,6 @@ pub record IsSetting (s0 s : Diagrams) (c d : List Obligation) (t : Table) (base
   pub fits : FitsCells s d
   pub others : HasOtherBodies base c d
   pub bodies : AllEnter s d t base items count
-
--- no body is set yet
-pub setting_none : (s : Diagrams) → IsCanonical s → (c : List Obligation) (t : Table) (base : ℕ) (items : List Id) → FitsCells s c → IsSetting s s c c t base items 0
-setting_none s k c t base items fits = record {
-  keeps = Keeps_refl s k;
-  fits = fits;
-  others = record { number = refl; ends = λ j. refl; before = λ j h. refl };
-  bodies = λ at h. absurd (omega arith);
-}
 
 apart : (i j : ℕ) → (i == j) ≡ false → i ≢ j
 apart i j t e = let h : (i == j) ≡ true = rw e (grind (arith, nat_tests)) in absurd (cc)
@@ -217,12 +155,3 @@ pub stands_after : (s1 s2 : Diagrams) (c1 c2 : List Obligation) (t : Table) (bas
 stands_after s1 s2 c1 c2 t base wider items x i n d k g at h word =
     cell-location n d t (fits_lasts s2 n k t x.fits) base wider (follows_after s1 s2 c1 c2 t base wider items x n d k g) (wider_lasts s2 n k t x.fits wider i) word at h
     ∙ accepts-lasts s2 n k t x.fits at h word
-
--- the table goes on where the one before ended
-pub goes_on_others : (base : ℕ) (c c1 c2 : List Obligation) → base ≡ length c → GoesOn c c1 → HasOtherBodies base c1 c2 → GoesOn c c2
-goes_on_others base c c1 c2 e g o =
-    let number = o.number in
-    record {
-      longer = let h = g.longer in omega arith;
-      same = λ j h l. o.before j (omega arith) ∙ g.same j h l;
-    }

@@ -6,12 +6,13 @@ use Rattle.bes_io.proofs.Bits.{same_bit}
 use Rattle.forms.specs.Operators.{agree}
 use Rattle.diagrams.specs.declared.top.Id.{Id}
 use Rattle.diagrams.specs.Tree.{Assignment}
-use Rattle.diagrams.specs.Eval.{Diagrams, DependsOn, eval, is_one}
+use Rattle.diagrams.specs.Eval.{Diagrams, DependsOn, eval, is_one, literal_value}
 use Rattle.diagrams.specs.Live.{IsLive, IsTruth, Keeps, Means}
 use Rattle.diagrams.specs.Composed.{IsObligation}
 use Rattle.diagrams.proofs.Meaning.{eval-lasts, is_one-lasts, live_lasts}
 use Rattle.obligations.specs.Value.{IsClaim, IsBody}
 use Rattle.path_programs.specs.Made.{IsOneWhere}
+use Rattle.diagrams.proofs.Literals.{number_small, literal_small, literal_one}
 
 min-and : (x y : ℕ) → x < 2 → y < 2 → (min x y == 1) ≡ (x == 1 && y == 1)
 min-and zero zero h k = refl
@@ -39,14 +40,6 @@ equal-agree (suc zero) zero h k = refl
 equal-agree (suc zero) (suc zero) h k = refl
 equal-agree (suc zero) (suc (suc y)) h k = absurd (omega arith)
 equal-agree (suc (suc x)) y h k = absurd (omega arith)
-
-choice_small : (b : Bool) → (if b then 1 else 0) < 2
-choice_small true = omega arith
-choice_small false = omega arith
-
-choice-is : (b : Bool) → ((if b then 1 else 0) == 1) ≡ b
-choice-is true = refl
-choice-is false = refl
 
 -- what is known of a diagram by its value
 pub one_by_value : (n : Diagrams) (id : Id) (g : Assignment → ℕ) (f : Assignment → Bool) → ((a : Assignment) → g a < 2) → ((a : Assignment) → (g a == 1) ≡ f a)
@@ -76,7 +69,7 @@ pub one_agreeing : {E : Type 0} (r : Result Id E) (s n : Diagrams) (f g : Id) �
     → IfOk r (λ id. IsOneWhere n id (λ a. agree (is_one s f a) (is_one s g a)))
 one_agreeing r s n f g p q ok = IfOk-weaker r (λ id. Means n id (λ a. if eval s f a == eval s g a then 1 else 0)) (λ id. IsOneWhere n id (λ a. agree (is_one s f a) (is_one s g a)))
     (λ id m. one_by_value n id (λ a. if eval s f a == eval s g a then 1 else 0) (λ a. agree (is_one s f a) (is_one s g a))
-    (λ a. choice_small (eval s f a == eval s g a)) (λ a. equal-agree (eval s f a) (eval s g a) (p.truth a) (q.truth a)) m) ok
+    (λ a. number_small (eval s f a == eval s g a)) (λ a. equal-agree (eval s f a) (eval s g a) (p.truth a) (q.truth a)) m) ok
 
 -- a constant
 pub one_constant : {E : Type 0} (r : Result Id E) (n : Diagrams) (x : ℕ) → x < 2 → IfOk r (λ id. Means n id (λ _. x)) → IfOk r (λ id. IsOneWhere n id (λ _. x == 1))
@@ -84,11 +77,9 @@ one_constant r n x h ok = IfOk-weaker r (λ id. Means n id (λ _. x)) (λ id. Is
     (λ id m. one_by_value n id (λ _. x) (λ _. x == 1) (λ a. h) (λ a. refl) m) ok
 
 -- a variable
-pub one_variable : {E : Type 0} (r : Result Id E) (s n : Diagrams) (v : ℕ) (lo hi : Id) → ((a : Assignment) → eval s lo a ≡ 0) → ((a : Assignment) → eval s hi a ≡ 1)
-    → IfOk r (λ id. Means n id (λ a. if a v then eval s hi a else eval s lo a)) → IfOk r (λ id. IsOneWhere n id (λ a. a v))
-one_variable r s n v lo hi p q ok = IfOk-weaker r (λ id. Means n id (λ a. if a v then eval s hi a else eval s lo a)) (λ id. IsOneWhere n id (λ a. a v))
-    (λ id m. one_by_value n id (λ a. if a v then eval s hi a else eval s lo a) (λ a. a v)
-    (λ a. rw (p a, q a) (choice_small (a v))) (λ a. rw (p a, q a) (choice-is (a v))) m) ok
+pub one_variable : {E : Type 0} (r : Result Id E) (n : Diagrams) (v : ℕ) → IfOk r (λ id. Means n id (literal_value v)) → IfOk r (λ id. IsOneWhere n id (λ a. a v))
+one_variable r n v ok = IfOk-weaker r (λ id. Means n id (literal_value v)) (λ id. IsOneWhere n id (λ a. a v))
+    (λ id m. one_by_value n id (literal_value v) (λ a. a v) (literal_small v) (literal_one v) m) ok
 
 -- a function that is the same
 pub one_same : (n : Diagrams) (id : Id) (f g : Assignment → Bool) → IsOneWhere n id f → ((a : Assignment) → f a ≡ g a) → IsOneWhere n id g

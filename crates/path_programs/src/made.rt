@@ -69,9 +69,7 @@ pub(crate) fn variable(store: &mut Store, var: u32) -> Result<Id, Memory>
     ensures keeps { Keeps store.old store.new }
     ensures id { IfOk result (λ id. IsOneWhere store.new id (λ a. a var)) }
 {
-    let lo = store.terminal(0)?;
-    let hi = store.terminal(1)?;
-    store.node(var, lo, hi)
+    store.literal(var)
 }
 
 /// One where an obligation is asked of the next position.

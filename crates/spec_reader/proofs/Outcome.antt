@@ -12,6 +12,7 @@ use Rattle.spec_reader.specs.Event.{Piece, Word, Stray, pieces, is_known, is_adm
 use Rattle.spec_reader.specs.Word.{with_word}
 use Rattle.spec_reader.proofs.LetterLemmas.{has-zero, has-with, with-below}
 use Rattle.spec_reader.proofs.EventLemmas.{one_letter}
+use Rattle.std.proofs.Math.Bool.{or-false}
 
 -- what reading the pieces gives: the letter, or the first fault
 abbrev pub outcome : List (List ℕ) → Mode → ℕ → List Piece → Result ℕ EventFault
@@ -86,10 +87,6 @@ outcome-has names mode letter (Word at word ∷ ps) end i h e =
       | inr refused ↦ absurd (let f = rw refused at e in cc)
     ]
 
-or_none : (b : Bool) → (b || false) ≡ b
-or_none true = refl
-or_none false = refl
-
 IsEventOf-outcome : (names : List (List ℕ)) (mode : Mode) (line : List ℕ) (letter : ℕ) → outcome names mode 0 (pieces line) ≡ Ok letter → IsEventOf names mode line letter
 IsEventOf-outcome names mode line letter e = record {
   admitted = outcome-Ok names mode 0 (pieces line) letter e;
@@ -97,7 +94,7 @@ IsEventOf-outcome names mode line letter e = record {
   bits = λ i h.
       outcome-has names mode 0 (pieces line) letter i h e
       ∙ ap (λ b. is_on names i (pieces line) || b) (has-zero (length names) i)
-      ∙ or_none (is_on names i (pieces line));
+      ∙ or-false (is_on names i (pieces line));
 }
 
 -- what a result says of a line

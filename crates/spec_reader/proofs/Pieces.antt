@@ -1,9 +1,9 @@
 -- Going along a line by index.
-use Rattle.std.proofs.Common.{◌≡◌, ℕ, zero, suc, ◌+◌, ◌-◌, ◌<◌, ◌≤◌, List, [], ◌∷◌, length, take, drop, get_or, inl, inr, true, false, ap, sym, ◌∙◌, arith, add-zero}
-use Rattle.std.proofs.lemmas.Bool.{cases_Bool}
+use Rattle.std.proofs.Common.{◌≡◌, ℕ, zero, suc, ◌+◌, ◌-◌, ◌<◌, ◌≤◌, List, [], ◌∷◌, length, take, drop, get_or, true, false, ap, sym, ◌∙◌, arith, add-zero}
 use Rattle.std.proofs.lemmas.List.{length-drop, drop-drop, drop_all, take_rest}
-use Rattle.form_reader.specs.Words.{is_blank, begins_word, goes_on, word_length}
+use Rattle.form_reader.specs.Words.{is_blank, begins_word, word_length}
 use Rattle.spec_reader.specs.Event.{Piece, Stray, run_pieces, pieces_from}
+use Rattle.form_reader.proofs.Pieces.{word_length-le}
 
 -- the pieces from index i of a line on
 abbrev pub pieces_at : List ℕ → ℕ → List Piece
@@ -17,24 +17,10 @@ pieces_from-skip (suc n) at (b ∷ bs) h =
     pieces_from-skip n (suc at) bs (omega arith)
     ∙ (let e : suc at + n ≡ at + suc n = omega arith in ap (λ k. pieces_from zero k (drop n bs)) e)
 
--- one step of the pieces, by the first byte: a blank
-pieces_from-blank : (at : ℕ) (bs : List ℕ) → 0 < length bs → is_blank (get_or bs 0 0) ≡ true → pieces_from zero at bs ≡ pieces_from zero (at + 1) (drop 1 bs)
-pieces_from-blank at [] h e = absurd (omega arith)
-pieces_from-blank at (b ∷ bs) h e = rw e (let one : suc at ≡ at + 1 = omega arith in ap (λ k. pieces_from zero k bs) one)
-
 -- a byte that belongs to no word
 pieces_from-stray : (at : ℕ) (bs : List ℕ) → 0 < length bs → is_blank (get_or bs 0 0) ≡ false → begins_word (get_or bs 0 0) ≡ false → pieces_from zero at bs ≡ Stray at ∷ pieces_from zero (at + 1) (drop 1 bs)
 pieces_from-stray at [] h e f = absurd (omega arith)
 pieces_from-stray at (b ∷ bs) h e f = rw (e, f) (let one : suc at ≡ at + 1 = omega arith in ap (λ k. Stray at ∷ pieces_from zero k bs) one)
-
--- a run ends within its bytes
-word_length-within : (bs : List ℕ) → word_length bs ≤ length bs
-word_length-within [] = omega arith
-word_length-within (b ∷ bs) =
-    elim (cases_Bool (goes_on b)) [
-      | inl on ↦ rw on (omega (arith, word_length-within bs))
-      | inr stops ↦ rw stops (omega arith)
-    ]
 
 -- a run of word bytes
 pieces_from-word : (at : ℕ) (bs : List ℕ) → 0 < length bs → is_blank (get_or bs 0 0) ≡ false → begins_word (get_or bs 0 0) ≡ true → pieces_from zero at bs ≡ run_pieces at (word_length bs) bs (pieces_from zero (at + word_length bs) (drop (word_length bs) bs))
@@ -43,7 +29,7 @@ pieces_from-word at (b ∷ bs) h e f =
     let n = word_length bs in
     let place : suc at + n ≡ at + suc n = omega arith in
     let rest : pieces_from n (suc at) bs ≡ pieces_from zero (at + suc n) (drop n bs) =
-    pieces_from-skip n (suc at) bs (word_length-within bs) ∙ ap (λ k. pieces_from zero k (drop n bs)) place in
+    pieces_from-skip n (suc at) bs (word_length-le bs) ∙ ap (λ k. pieces_from zero k (drop n bs)) place in
     rw (e, f) (ap (λ ps. run_pieces at (suc n) (b ∷ bs) ps) rest)
 
 -- the bytes from index i on, as a slice of the line has them

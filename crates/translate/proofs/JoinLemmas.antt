@@ -1,5 +1,5 @@
 -- Diagrams joined by an operation: literals, bodies and claims.
-use Rattle.std.proofs.Common.{◌≡◌, ℕ, zero, suc, ◌<◌, ◌≤◌, ◌+◌, Bool, true, false, if◌then◌else◌, List, length, refl, sym, ◌∙◌, ap, arith, Result, IfOk}
+use Rattle.std.proofs.Common.{◌≡◌, ℕ, zero, suc, ◌<◌, ◌≤◌, ◌+◌, List, length, refl, sym, ◌∙◌, ap, arith, Result, IfOk}
 use Rattle.std.specs.Prelude.{◌==◌}
 use Rattle.std.proofs.lemmas.Bool.Decides.{nat_tests}
 use Rattle.std.proofs.lemmas.Result.{IfOk-weaker}
@@ -17,26 +17,7 @@ use Rattle.obligations.specs.Value.{by_values, cell, holds, IsClaim, IsBody, Fit
 use Rattle.obligations.specs.Inclusion.{later}
 use Rattle.obligations.proofs.Holds.{by_values-obligations, cell-lasts, body_lasts, body_wider}
 use Rattle.translate.specs.Joined.{IsJoin, joined}
-
--- a literal is 0 or 1
-pub literal_small : (v : ℕ) (a : Assignment) → literal_value v a < 2
-literal_small v a = small (a v)
-  where
-    small : (b : Bool) → (if b then 1 else 0) < 2
-    small true = omega arith
-    small false = omega arith
-
--- it is 1 where its variable is true
-pub literal_one : (v : ℕ) (a : Assignment) → (literal_value v a == 1) ≡ a v
-literal_one v a = one (a v)
-  where
-    one : (b : Bool) → ((if b then 1 else 0) == 1) ≡ b
-    one true = refl
-    one false = refl
-
--- it depends on its variable
-pub literal_same : (v : ℕ) (a b : Assignment) → a v ≡ b v → literal_value v a ≡ literal_value v b
-literal_same v a b e = rw e refl
+use Rattle.diagrams.proofs.Literals.{literal_small, literal_one, literal_same}
 
 -- the literal of an obligation is a body
 pub literal_body : (n : Diagrams) (p j count : ℕ) (i : Id) → n.props ≡ p → j < count → Means n i (literal_value (p + j)) → IsBody n count i
@@ -136,10 +117,6 @@ combined_claim n op j count f g i x y m = record {
 pub combined_one : (n : Diagrams) (op : Op) → IsJoin op → (f g i : Id) → ((a : Assignment) → eval n f a < 2) → ((a : Assignment) → eval n g a < 2) → Means n i (combined_value n op f g)
     → (a : Assignment) → is_one n i a ≡ joined op (is_one n f a) (is_one n g a)
 combined_one n op j f g i x y m a = ap (λ v. v == 1) (m.value a) ∙ applied_one op j (eval n f a) (eval n g a) (x a) (y a)
-
-split_literal : (b : Bool) (x y : ℕ) → x ≡ 0 → y ≡ 1 → (if b then y else x) ≡ (if b then 1 else 0)
-split_literal true x y e f = f
-split_literal false x y e f = e
 
 -- a body as its store and its table grow
 pub body_grown : (s n : Diagrams) → Keeps s n → (count more : ℕ) (f : Id) → count ≤ more → IsBody s count f → IsBody n more f

@@ -1,10 +1,8 @@
 -- From an automaton to the least one, and to the one that accepts what it does not.
-use Rattle.std.proofs.Common.{◌≡◌, ◌≢◌, ℕ, ◌<◌, ◌+◌, ◌++◌, Bool, true, false, if◌then◌else◌, List, [], ◌∷◌, length, length-append, refl, sym, ◌∙◌, ap, subst, arith, inl, inr, Result, Ok, Err, IfOk}
+use Rattle.std.proofs.Common.{◌≡◌, ◌≢◌, ℕ, ◌<◌, Bool, true, false, if◌then◌else◌, List, [], ◌∷◌, length, refl, sym, ◌∙◌, ap, subst, arith, Result, Ok, Err, IfOk}
 use Rattle.std.specs.Prelude.{◌==◌, not, slice_index}
-use Rattle.std.proofs.lemmas.Bool.{cases_lt}
 use Rattle.std.proofs.lemmas.Bool.Decides.{nat_tests}
 use Rattle.std.proofs.lemmas.Result.{IfOk-weaker}
-use Rattle.std.proofs.lemmas.List.{get_or_append_left, get_or_at}
 use Rattle.forms.specs.Word.{Word, Claim}
 use Rattle.diagrams.specs.declared.top.Id.{Id}
 use Rattle.diagrams.specs.Eval.{Diagrams, letter_truth}
@@ -53,43 +51,6 @@ pub record IsFlippedTo (t : Table) (marks : List ℕ) (rows : List Id) (n : ℕ)
   pub row_count : length rows ≡ n
   pub mark : (at : ℕ) → at < n → slice_index marks at ≡ (if mark_of t at == 1 then 0 else 1)
   pub row : (at : ℕ) → at < n → id_at rows at ≡ row_of t at
-
--- before the first location
-pub flipped_first : (t : Table) → IsFlippedTo t [] [] 0
-flipped_first t = record { mark_count = refl; row_count = refl; mark = λ at h. absurd (omega arith); row = λ at h. absurd (omega arith) }
-
--- one location more
-pub flipped_next : (t : Table) (marks : List ℕ) (rows : List Id) (n mark : ℕ) (row : Id) → IsFlippedTo t marks rows n
-    → mark ≡ (if mark_of t n == 1 then 0 else 1) → row ≡ row_of t n → IsFlippedTo t (marks ++ mark ∷ []) (rows ++ row ∷ []) (n + 1)
-flipped_next t marks rows n mark row x e f = record {
-  mark_count = rw (length-append, x.mark_count) refl;
-  row_count = rw (length-append, x.row_count) refl;
-  mark = λ at h.
-      elim (cases_lt at n) [
-        | inl l ↦ get_or_append_left marks (mark ∷ []) _ at (rw x.mark_count l) ∙ x.mark at l
-        | inr l ↦
-            let b : at ≡ n = omega arith in
-            let m : slice_index (marks ++ mark ∷ []) n ≡ mark = get_or_at marks mark [] _ n x.mark_count in
-            rw b (m ∙ e)
-      ];
-  row = λ at h.
-      elim (cases_lt at n) [
-        | inl l ↦ get_or_append_left rows (row ∷ []) _ at (rw x.row_count l) ∙ x.row at l
-        | inr l ↦
-            let b : at ≡ n = omega arith in
-            let m : id_at (rows ++ row ∷ []) n ≡ row = get_or_at rows row [] _ n x.row_count in
-            rw b (m ∙ f)
-      ];
-}
-
--- when all are done
-pub flipped_done : (t q : Table) (marks : List ℕ) (rows : List Id) (n : ℕ) → IsFlippedTo t marks rows n → n ≡ size_of t → q.first ≡ t.first → q.marks ≡ marks → q.rows ≡ rows → IsFlipped t q
-flipped_done t q marks rows n x e f m r = record {
-  size = ap length r ∙ x.row_count ∙ e;
-  first = f;
-  row = λ at h. rw r (x.row at (rw e h));
-  mark = λ at h. rw m (x.mark at (rw e h));
-}
 
 -- a flipped automaton fits the store
 pub flipped_fits : (s : Diagrams) (t q : Table) → Fits s t → IsFlipped t q → Fits s q

@@ -1,9 +1,8 @@
 -- The least automata of operators, over those of their operands in earlier stores.
 use mathlib.Core.Path.{fun_ext}
-use Rattle.std.proofs.Common.{◌≡◌, ℕ, ◌<◌, ◌≤◌, Bool, true, false, List, [], ◌∷◌, refl, sym, ◌∙◌, ap, ap₂, subst, not, ◌&&◌}
+use Rattle.std.proofs.Common.{◌≡◌, ℕ, ◌<◌, Bool, true, false, List, [], ◌∷◌, refl, sym, ◌∙◌, ap, ap₂, subst, not, ◌&&◌}
 use Rattle.std.specs.Prelude.{◌==◌, All}
 use Rattle.std.proofs.lemmas.List.Elements.{All-append, All-cons, All-nil}
-use Rattle.bes_io.proofs.Bits.{same_bit}
 use Rattle.forms.specs.Word.{Word, Claim, IsOver, is_empty}
 use Rattle.forms.specs.Paths.{reaches}
 use Rattle.forms.specs.Tree.{Formula, Program, tree}
@@ -14,15 +13,11 @@ use Rattle.forms.proofs.Further.{not-reaches}
 use Rattle.diagrams.specs.Eval.{Diagrams}
 use Rattle.diagrams.specs.Live.{Keeps}
 use Rattle.automata.specs.declared.meant.Meant.{Meant}
-use Rattle.automata.specs.Moves.{Moves, location_after, mark_after, IsClosed, HaveSameMarksOver}
 use Rattle.automata.specs.Table.{Table, size_of, moves_of, IsMeant}
-use Rattle.automata.proofs.Lasts.{mark_after-lasts, meant_lasts}
 use Rattle.automata.proofs.Everywhere.{IsMeant-everywhere}
-use Rattle.automata.proofs.Words.{location_after-within}
-use Rattle.minimise.specs.Minimal.{IsLeastFor, Decides, AreTheSame}
+use Rattle.automata.proofs.Lasts.{mark_after-lasts, meant_lasts}
+use Rattle.minimise.specs.Minimal.{IsLeastFor, Decides}
 use Rattle.minimise.proofs.Counts.{size_is_class_count}
-use Rattle.minimise.proofs.Unique.{least_is_unique}
-use Rattle.minimise.proofs.Smallest.{least_is_smallest}
 use Rattle.translate.specs.declared.operation.Unary.{Unary}
 use Rattle.translate.specs.declared.operation.Binary.{Binary}
 use Rattle.translate.specs.declared.operation.Modal.{Modal}
@@ -107,7 +102,7 @@ box_made p r s x y n a b d t h e k l =
     ∙ fun_ext (λ u. not-reaches (goes p r) (accepted s a) u)) l
 
 -- a least automaton decides its claim
-pub decides_of : (s : Diagrams) (t : Table) (f : Claim) → IsLeastOf s t f → Decides s.props (moves_of s t) f
+decides_of : (s : Diagrams) (t : Table) (f : Claim) → IsLeastOf s t f → Decides s.props (moves_of s t) f
 decides_of s t f h = record { marks = h.marks; accepts = λ w o. sym (h.same w) }
 
 -- and is the claim's own, numbered
@@ -118,40 +113,6 @@ least_for s t f p e h =
 -- and has as many locations as the claim has classes
 pub class_count : (s : Diagrams) (t : Table) (f : Claim) (p : ℕ) → s.props ≡ p → IsLeastOf s t f → HasClassCount p f (size_of t)
 class_count s t f p e h = subst (λ q. HasClassCount q f (size_of t)) e (size_is_class_count s.props (moves_of s t) f h.least (decides_of s t f h))
-
--- two automata that decide claims that agree have the same marks
-pub agree_of : (p : ℕ) (m n : Moves) (f g : Claim) → IsClosed p m → IsClosed p n → Decides p m f → Decides p n g → ((w : Word) → IsOver p w → f w ≡ g w) → HaveSameMarksOver p m n
-agree_of p m n f g c d x y e w o =
-    same_bit (mark_after m m.first w) (mark_after n n.first w)
-    (x.marks (location_after m m.first w) (location_after-within p m c m.first w c.first o))
-    (y.marks (location_after n n.first w) (location_after-within p n d n.first w d.first o))
-    (sym (x.accepts w o) ∙ e w o ∙ y.accepts w o)
-
--- what agrees with a claim on words over so many propositions has the same least automaton
-abbrev pub IsOnlyLeast : ℕ → Moves → Claim → Type 0
-IsOnlyLeast p n f = (g : Claim) → ((w : Word) → IsOver p w → g w ≡ f w) → (m : Moves) → IsLeastFor p m g → AreTheSame p m n
-
--- numbered least automata of what agrees with the claim are the same
-pub only_least : (s : Diagrams) (t : Table) (f : Claim) (p : ℕ) → s.props ≡ p → IsLeastOf s t f → IsOnlyLeast p (moves_of s t) f
-only_least s t f p e h = subst (λ q. IsOnlyLeast q (moves_of s t) f) e only
-  where
-    only : IsOnlyLeast s.props (moves_of s t) f
-    only g same m l =
-        least_is_unique s.props m (moves_of s t) l.least l.numbered h.least h.numbered
-        (agree_of s.props m (moves_of s t) g f l.least.closed h.least.closed l.decides (decides_of s t f h) same)
-
--- no closed automaton that decides the claim has fewer locations
-abbrev pub IsSmallest : ℕ → ℕ → Claim → Type 0
-IsSmallest p size f = (m : Moves) → IsClosed p m → Decides p m f → size ≤ m.size
-
--- a least automaton is smallest
-pub smallest : (s : Diagrams) (t : Table) (f : Claim) (p : ℕ) → s.props ≡ p → IsLeastOf s t f → IsSmallest p (size_of t) f
-smallest s t f p e h = subst (λ q. IsSmallest q (size_of t) f) e least
-  where
-    least : IsSmallest s.props (size_of t) f
-    least m c d =
-        least_is_smallest s.props (moves_of s t) m h.least c
-        (agree_of s.props (moves_of s t) m f f h.least.closed c (decides_of s t f h) d (λ w o. refl))
 
 -- the automaton of a formula's traces
 pub whole_made : (s : Diagrams) (n : Diagrams) (a t : Table) (f : Formula) (p : ℕ) → s.props ≡ p → IsLeastMeant s a f → IsLeastOf n t (λ w. not (is_empty w) && accepted s a w)

@@ -3,6 +3,7 @@ use Rattle.std.proofs.Common.{◌≡◌, ℕ, ◌<◌, ◌+◌, ◌++◌, Bool, 
 use Rattle.std.specs.Prelude.{◌==◌, ◌&&◌, ◌||◌, not}
 use Rattle.std.specs.Int.{from_bool}
 use Rattle.std.proofs.lemmas.Bool.{lt-ltb}
+use Rattle.std.proofs.Math.Bool.{and_comm}
 use Rattle.forms.specs.Word.{Word, Claim, is_empty}
 use Rattle.forms.specs.Operators.{atom, next, weak_next, until, release, eventually, always}
 use Rattle.diagrams.specs.declared.top.Id.{Id}
@@ -16,7 +17,9 @@ use Rattle.obligations.specs.declared.cells.Obligation.{Obligation}
 use Rattle.obligations.specs.Value.{by_values, joint, cell, holds, IsBody, IsClaim, FitsCells}
 use Rattle.obligations.proofs.Holds.{joint-letter}
 use Rattle.translate.specs.Joined.{repeated, awaited, stepped, ended}
-use Rattle.translate.proofs.JoinLemmas.{literal_claim, literal_holds, literal_truth, literal_one, literal_same, literal_small}
+use Rattle.translate.proofs.JoinLemmas.{literal_claim, literal_holds, literal_truth}
+use Rattle.translate.proofs.StandingLemmas.{from_bool_small}
+use Rattle.diagrams.proofs.Literals.{literal_small, literal_one, literal_same}
 
 -- eventually
 pub repeated-eventually : (f : Claim) (w : Word) → repeated Or false f w ≡ eventually f w
@@ -52,17 +55,13 @@ stepped-weak_next f (a ∷ w) = refl
 pub fits_none : (s : Diagrams) (c : List Obligation) → c ≡ [] → FitsCells s c
 fits_none s c e = rw e (λ j h. absurd (omega arith))
 
-constant_small : (b : Bool) → from_bool b < 2
-constant_small true = omega arith
-constant_small false = omega arith
-
 constant_one : (b : Bool) → (from_bool b == 1) ≡ b
 constant_one true = refl
 constant_one false = refl
 
 -- a constant is a claim
 pub constant_claim : (s : Diagrams) (count : ℕ) (value : Bool) (i : Id) → Means s i (λ _. from_bool value) → IsClaim s count i
-constant_claim s count value i m = record { live = m.live; over = λ a b same. m.value a ∙ sym (m.value b); truth = λ a. rw (m.value a) (constant_small value) }
+constant_claim s count value i m = record { live = m.live; over = λ a b same. m.value a ∙ sym (m.value b); truth = λ a. rw (m.value a) (from_bool_small value) }
 
 -- which holds on all words or on none
 pub constant_holds : (s : Diagrams) (c : List Obligation) (value : Bool) (i : Id) → Means s i (λ _. from_bool value) → (w : Word) → holds s c i w ≡ value
@@ -93,15 +92,9 @@ atom_holds s0 s k c i body e h m w =
     ∙ atom_cell s i body (rw k.extends.props h) m w
     ∙ ap (λ p. atom p i w) k.extends.props
 
-and_swapped : (x y : Bool) → (x && y) ≡ (y && x)
-and_swapped true true = refl
-and_swapped true false = refl
-and_swapped false true = refl
-and_swapped false false = refl
-
 -- and a letter is left
 pub nonempty_and : (x y : Bool) (f : Claim) (w : Word) → x ≡ f w → y ≡ ended false w → (x && y) ≡ (not (is_empty w) && f w)
-nonempty_and x y f w d e = rw (d, e) (and_swapped (f w) (not (is_empty w)))
+nonempty_and x y f w d e = rw (d, e) (and_comm (f w) (not (is_empty w)))
 
 -- the first implies the second
 pub chosen_means : (q n : Diagrams) → Keeps q n → (f g one i : Id) → IsTruth q f → IsTruth q g → Means q one (λ _. 1) → Means n i (chosen_value q f g one) → (a : Assignment)

@@ -22,10 +22,7 @@ use Rattle.path_programs.proofs.Resting.{last-one}
 use Rattle.translate.specs.Exact.{accepted}
 use Rattle.translate.specs.Joined.{ended}
 use Rattle.translate.specs.Standing.{Stands}
-
--- a table goes on as itself
-pub goes_on_refl : (c : List Obligation) → GoesOn c c
-goes_on_refl c = record { longer = omega arith; same = λ j a b. refl }
+use Rattle.obligations.proofs.Stands.{goes_on_refl}
 
 -- going on twice is going on
 pub goes_on_trans : (b c d : List Obligation) → GoesOn b c → GoesOn c d → GoesOn b d
@@ -89,7 +86,8 @@ fits_add s n c d x k f b e j h =
           rw (here, same) b
     ])
 
-from_bool_small : (b : Bool) → from_bool b < 2
+-- a truth value's number is below 2
+pub from_bool_small : (b : Bool) → from_bool b < 2
 from_bool_small true = omega arith
 from_bool_small false = omega arith
 

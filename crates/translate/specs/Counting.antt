@@ -8,13 +8,13 @@ use Rattle.forms.specs.Equivalence.{HasClassCount}
 use Rattle.translate.specs.declared.fault.TranslateFault.{TranslateFault}
 use Rattle.translate.specs.declared.fault.TranslateFault.TheVariants.{TooMany, Memory}
 
--- what holds of the words of a part, or where there is no such part of the traces of the formula
+-- what holds of the words of a part; no part stands for the whole, of which it says what holds of the traces
 abbrev pub claim_of : ℕ → Formula → Option Formula → Claim
 claim_of p f (Some g) = λ w. sat p g w
 claim_of p f None = λ w. meets p f w
 
--- part k, counted from 1, has so many classes of equivalent words; the whole, with the number after the last part,
--- counts by its traces
+-- part k, counted from 1, has so many classes of equivalent words; a number that no part has, as the one after the
+-- last, is the whole's, which counts by its traces
 abbrev pub HasCount : ℕ → Formula → ℕ → ℕ → Type 0
 HasCount p f k count = HasClassCount p (claim_of p f (part f k)) count
 

@@ -1,14 +1,12 @@
 //! The least automaton of a formula.
-ghost use Rattle.std.specs.Prelude.{◌≡◌, ◌<◌, ◌≤◌, ◌^◌, All, IfOk, IfErr};
+ghost use Rattle.std.specs.Prelude.{◌<◌, ◌≤◌, ◌^◌, All, IfOk, IfErr};
 ghost use Rattle.forms.specs.Tree.{tree, nodes};
 ghost use Rattle.forms.specs.Proper.{IsProper};
 ghost use Rattle.forms.specs.Satisfaction.{meets};
-ghost use Rattle.forms.specs.Word.{Word, Claim, IsOver};
 ghost use Rattle.forms.specs.Equivalence.{HasClassCount};
 ghost use Rattle.diagrams.specs.Live.{Keeps};
-ghost use Rattle.automata.specs.Moves.{Moves, IsClosed};
 ghost use Rattle.automata.specs.Table.{size_of, moves_of};
-ghost use Rattle.minimise.specs.Minimal.{IsLeastFor, Decides, AreTheSame};
+ghost use Rattle.minimise.specs.Minimal.{IsLeastFor, IsOnlyFor};
 ghost use Rattle.translate.specs.Exact.{IsLeastOf};
 ghost use Rattle.translate.specs.Counting.{AreCounts, IfTooMany, IsFirstOver};
 
@@ -50,11 +48,8 @@ pub fn translate(
     ensures whole_within { IfOk result (λ made. size_of made.whole ≤ limit) }
     ensures size { IfOk result (λ made.
         HasClassCount store.old.props (λ w. meets store.old.props (tree form.now) w) (size_of made.whole)) }
-    ensures same_traces { IfOk result (λ made. (f : Claim)
-        → ((w : Word) → IsOver store.old.props w → f w ≡ meets store.old.props (tree form.now) w)
-        → (m : Moves) → IsLeastFor store.old.props m f → AreTheSame store.old.props m (moves_of store.new made.whole)) }
-    ensures smallest { IfOk result (λ made. (m : Moves) → IsClosed store.old.props m
-        → Decides store.old.props m (λ w. meets store.old.props (tree form.now) w) → size_of made.whole ≤ m.size) }
+    ensures only { IfOk result (λ made.
+        IsOnlyFor store.old.props (moves_of store.new made.whole) (λ w. meets store.old.props (tree form.now) w)) }
     ensures too_many { IfErr result (λ fault. IfTooMany fault (IsFirstOver store.old.props (tree form.now) limit)) }
 {
     prove!(store.props() <= 32);

@@ -1,9 +1,12 @@
 use Rattle.std.proofs.Common.{◌≡◌, ◌+◌, ◌<◌, ◌≤◌, ◌∙◌, ap, refl, subst, arith, Ok, Err, Some, None, List, ℕ}
 use Rattle.bes_io.specs.Reader.{allowed}
 use Rattle.bes_io.specs.Causes.{Rose}
+use Rattle.monitor.specs.Verdicts.{verdict_of}
 use Rattle.bes_suite.specs.Letters.{NextLetter, HasTraceCause}
+use Rattle.bes_suite.specs.Monitoring.{verdict_line}
 use Rattle.bes_suite.specs.Worlds.{world}
 use Rattle.bes_suite.proofs.TraceLemmas.{same-cause, same-faults, falls}
+use Rattle.bes_suite.proofs.CallLemmas.{verdict-line, PutsLines-none, PutsLines-more}
 use Rattle.bes_suite.proofs.MonitorLines.{monitored-start, monitored-more, line-due}
 use Rattle.bes_suite.proofs.MonitorRuns.{run-ends, run-stops, streams-stops, run-unheard, streams-unheard}
 use Rattle.bes_suite.proofs.monitoring.monitor_input.Goals as goal
@@ -14,6 +17,7 @@ loop-letter-init g c =
     record {
       told = λ f opened rest told. monitored-start c.args.store.now c.args.names.now.names f rest (g.O.Sink.held c.args.out.now) c.new-reader.result (g.S.Source.left c.args.input.now) c.args.monitor c.new-reader.ensures opened told;
       silent = λ f opened rest told none. refl;
+      lines = PutsLines-none g.O.Sink.IsPut c.args.out.now c.args.out.now refl;
       ready = c.requires.ready;
       reads = refl;
       puts = refl;
@@ -79,6 +83,11 @@ returns-in-Err-put_verdict-clause-streams g c contents failed f opened =
     c.event-verdict.result c.event-verdict.ensures.verdict c.in-Err-put_verdict.ensures.bytes
     (same-faults _ _ c.in-Ok-Some.letter c.next_letter.result c.next_letter.ensures.cause is ∙ l.invariant.reads)
 
+pub returns-in-Err-put_verdict-clause-lines : goal.returns-in-Err-put_verdict-clause-lines
+returns-in-Err-put_verdict-clause-lines g c =
+    let v = verdict_of c.event-verdict.result in
+    PutsLines-more g.O.Sink.IsPut c.args.out.now c.loop-letter.out c.put_verdict.new.out (verdict_line v) c.loop-letter.invariant.lines (verdict-line v) c.put_verdict.ensures.put
+
 pub returns-in-Ok-None-clause-silent : goal.returns-in-Ok-None-clause-silent
 returns-in-Ok-None-clause-silent g c = c.loop-letter.invariant.silent
 
@@ -112,6 +121,7 @@ loop-letter-preserved g c =
           absurd (line-due c.args.store.now c.args.names.now.names f rest (g.O.Sink.held c.args.out.now) l.reader c.next_letter.new.reader (g.S.Source.left l.input) (g.S.Source.left c.next_letter.new.input) l.monitor l.line l.last (g.O.Sink.held l.out) w c.in-Ok-Some.letter
           (subst (λ q. NextLetter c.args.names.now.names l.line l.reader w.bytes q c.next_letter.new.reader (g.S.Source.left c.next_letter.new.input)) is (c.next_letter.ensures.tells w.bytes w.input_left))
           c.requires.props c.event-verdict.result c.event-verdict.ensures.verdict l.invariant.ready none);
+      lines = PutsLines-more g.O.Sink.IsPut c.args.out.now l.out c.put_verdict.new.out (verdict_line (verdict_of c.event-verdict.result)) l.invariant.lines (verdict-line (verdict_of c.event-verdict.result)) c.put_verdict.ensures.put;
       ready = c.event-verdict.ensures.ready;
       reads = same-faults _ _ c.in-Ok-Some.letter c.next_letter.result c.next_letter.ensures.cause is ∙ l.invariant.reads;
       puts = c.in-Ok.ensures.cause.kept ∙ l.invariant.puts;

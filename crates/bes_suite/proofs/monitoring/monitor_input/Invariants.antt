@@ -5,6 +5,7 @@ use Rattle.monitor.specs.Configuration.{IsReady}
 use Rattle.bes_suite.specs.Monitoring.{most_monitored, IsMonitored}
 use Rattle.bes_suite.specs.OpenedMonitor.{IsOpened}
 use Rattle.bes_suite.specs.Worlds.{NoOutputIsDue}
+use Rattle.bes_suite.specs.Calls.{PutsLines}
 use Rattle.bes_suite.proofs.MonitorLines.{Monitored}
 use Rattle.bes_suite.proofs.monitoring.monitor_input.Given as goal
 
@@ -14,6 +15,7 @@ invariant-loop-letter g l = record {
       → Monitored l.store l.names.names f rest (g.O.Sink.held l.fn.out) l.reader (g.S.Source.left l.input) l.monitor l.line l.last (g.O.Sink.held l.out);
   silent : (f : Formula) → IsOpened l.fn.store l.fn.monitor l.fn.names.names f → (rest : List ℕ) → g.S.Source.left l.fn.input ≡ Some rest
       → NoOutputIsDue (IsMonitored l.names.names f rest) → l.out ≡ l.fn.out;
+  lines : PutsLines g.O.Sink.IsPut l.fn.out l.out;
   ready : IsReady l.store l.monitor;
   reads : g.S.Source.faults l.input ≡ g.S.Source.faults l.fn.input;
   puts : g.O.Sink.faults l.out ≡ g.O.Sink.faults l.fn.out;

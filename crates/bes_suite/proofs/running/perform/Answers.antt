@@ -1,4 +1,4 @@
-use Rattle.std.proofs.Common.{◌≡◌, sym, ◌∙◌, refl, subst, rules, ◌<◌, length, []}
+use Rattle.std.proofs.Common.{◌≡◌, arith, sym, ◌∙◌, refl, subst, rules, ◌<◌, length, []}
 use Rattle.std.proofs.lemmas.List.{get_or_default}
 use Rattle.bes_suite.specs.declared.endings.Refusal.TheVariants.{Usage}
 use Rattle.bes_suite.specs.declared.commands.Command.TheVariants as command
@@ -9,11 +9,14 @@ use Rattle.bes_suite.specs.Judge.{JudgeAnswers}
 use Rattle.bes_suite.specs.Showing.{FormsAnswers}
 use Rattle.bes_suite.specs.Translation.{TranslateAnswers}
 use Rattle.bes_suite.specs.Monitoring.{MonitorAnswers, IsFormulaWithinLimit}
-use Rattle.bes_suite.specs.Answers.{AnswersAs, MayReadAs}
+use Rattle.bes_suite.specs.Answers.{AnswersAs, AnswersWith, MayReadAs}
+use Rattle.bes_suite.specs.Calls.{PutsReply}
 use Rattle.bes_suite.specs.Streams.{Streams}
 use Rattle.bes_suite.specs.Worlds.{NoOutputIsDue, Performs, needs_input, needs_nothing, world}
 use Rattle.bes_suite.proofs.Performing.{refusal}
-use Rattle.bes_suite.proofs.RunLemmas.{performs-as, streams-as, silent-as, needs_as}
+use Rattle.bes_suite.specs.Endings.{status_of}
+use Rattle.bes_suite.proofs.CallLemmas.{PutsReply-none, IsPutOnce-reply}
+use Rattle.bes_suite.proofs.RunLemmas.{performs-as, streams-as, silent-as, written-as, needs_as}
 use Rattle.bes_suite.proofs.running.perform.Goals as goal
 
 pub returns-in-Usage-clause-performs : goal.returns-in-Usage-clause-performs
@@ -102,3 +105,47 @@ returns-in-Monitor-clause-silent g c contents rest =
     silent-as c.args.words.now (command.Monitor c.in-Monitor.dialect) (sym (sym c.find_command.ensures ∙ c.in-Monitor.is)) contents rest _ (c.monitor_formula.new.out ≡ c.args.out.now)
     (λ tells. subst (λ t. NoOutputIsDue (MonitorAnswers c.in-Monitor.dialect t rest) → c.monitor_formula.new.out ≡ c.args.out.now) text
     (c.monitor_formula.ensures.silent rest (λ may. tells.told_input (subst (IsFormulaWithinLimit c.in-Monitor.dialect) text may))))
+
+pub returns-in-Usage-clause-written : goal.returns-in-Usage-clause-written
+returns-in-Usage-clause-written g c contents rest tells off =
+    PutsReply-none g.O.Sink.IsPut (AnswersWith c.args.words.now contents rest) c.args.out.now c.args.out.now 2 refl (λ few. omega (arith, few))
+
+pub returns-in-Judge-clause-written : goal.returns-in-Judge-clause-written
+returns-in-Judge-clause-written g c contents rest =
+    let many : 2 < length c.args.words.now = search rules in
+    let text : c.bytes.result.now ≡ word_at c.args.words.now 2 = c.bytes.ensures ∙ c.index-words-2.is ∙ get_or_default c.args.words.now 2 c.index-words-2.result [] many in
+    written-as c.args.words.now (command.Judge c.in-Judge.dialect) (sym (sym c.find_command.ensures ∙ c.in-Judge.is)) contents rest _
+    (λ replies. PutsReply g.O.Sink.IsPut replies c.args.out.now c.judge_formula.new.out (status_of c.judge_formula.result))
+    (λ tells off. subst (λ t. PutsReply g.O.Sink.IsPut (JudgeAnswers c.in-Judge.dialect t rest) c.args.out.now c.judge_formula.new.out (status_of c.judge_formula.result)) text
+    (c.judge_formula.ensures.written rest (λ may. tells.told_input (subst (λ t. (f : Formula) × IsFormula c.in-Judge.dialect t f) text may))))
+
+pub returns-in-Forms-clause-written : goal.returns-in-Forms-clause-written
+returns-in-Forms-clause-written g c contents rest =
+    let many : 2 < length c.args.words.now = search rules in
+    let text : c.bytes-in-Forms.result.now ≡ word_at c.args.words.now 2 = c.bytes-in-Forms.ensures ∙ c.index-words-2-in-Forms.is ∙ get_or_default c.args.words.now 2 c.index-words-2-in-Forms.result [] many in
+    written-as c.args.words.now (command.Forms c.in-Forms.dialect) (sym (sym c.find_command.ensures ∙ c.in-Forms.is)) contents rest _
+    (λ replies. PutsReply g.O.Sink.IsPut replies c.args.out.now c.show_formula.new.out (status_of c.show_formula.result))
+    (λ tells off. subst (λ t. PutsReply g.O.Sink.IsPut (FormsAnswers c.in-Forms.dialect t) c.args.out.now c.show_formula.new.out (status_of c.show_formula.result)) text
+    c.show_formula.ensures.written)
+
+pub returns-in-Translate-clause-written : goal.returns-in-Translate-clause-written
+returns-in-Translate-clause-written g c contents rest =
+    let many : 2 < length c.args.words.now = search rules in
+    let text : c.bytes-in-Translate.result.now ≡ word_at c.args.words.now 2 = c.bytes-in-Translate.ensures ∙ c.index-words-2-in-Translate.is ∙ get_or_default c.args.words.now 2 c.index-words-2-in-Translate.result [] many in
+    written-as c.args.words.now (command.Translate c.in-Translate.dialect) (sym (sym c.find_command.ensures ∙ c.in-Translate.is)) contents rest _
+    (λ replies. PutsReply g.O.Sink.IsPut replies c.args.out.now c.translate_formula.new.out (status_of c.translate_formula.result))
+    (λ tells off. subst (λ t. PutsReply g.O.Sink.IsPut (TranslateAnswers c.in-Translate.dialect t) c.args.out.now c.translate_formula.new.out (status_of c.translate_formula.result)) text
+    c.translate_formula.ensures.written)
+
+pub returns-in-Monitor-clause-written : goal.returns-in-Monitor-clause-written
+returns-in-Monitor-clause-written g c contents rest =
+    written-as c.args.words.now (command.Monitor c.in-Monitor.dialect) (sym (sym c.find_command.ensures ∙ c.in-Monitor.is)) contents rest _
+    (λ replies. PutsReply g.O.Sink.IsPut replies c.args.out.now c.monitor_formula.new.out (status_of c.monitor_formula.result)) (λ tells off. cc)
+
+pub returns-in-Forms-clause-once : goal.returns-in-Forms-clause-once
+returns-in-Forms-clause-once g c off =
+    IsPutOnce-reply g.O.Sink.IsPut (FormsAnswers c.in-Forms.dialect c.bytes-in-Forms.result.now) c.args.out.now c.show_formula.new.out (status_of c.show_formula.result) c.show_formula.ensures.written
+
+pub returns-in-Translate-clause-once : goal.returns-in-Translate-clause-once
+returns-in-Translate-clause-once g c off =
+    IsPutOnce-reply g.O.Sink.IsPut (TranslateAnswers c.in-Translate.dialect c.bytes-in-Translate.result.now) c.args.out.now c.translate_formula.new.out (status_of c.translate_formula.result) c.translate_formula.ensures.written

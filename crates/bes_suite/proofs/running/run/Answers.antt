@@ -2,7 +2,7 @@ use Rattle.bes_suite.specs.Answers.{AnswersWith, MayRead}
 use Rattle.bes_suite.specs.Worlds.{world, needs_of}
 use Rattle.bes_suite.proofs.Unique.{one-reply}
 use Rattle.bes_suite.proofs.TranslationLemmas.{only-automaton}
-use Rattle.bes_suite.proofs.RunLemmas.{answers, message-cause, partly}
+use Rattle.bes_suite.proofs.RunLemmas.{answers, message-cause, partly, answer-status}
 use Rattle.bes_suite.proofs.running.run.Goals as goal
 
 pub returns-clause-one : goal.returns-clause-one
@@ -34,3 +34,15 @@ returns-clause-unheard g c contents rest tells =
 
 pub returns-clause-only_automaton : goal.returns-clause-only_automaton
 returns-clause-only_automaton g c names f text t = only-automaton names f text t
+
+pub returns-clause-ends : goal.returns-clause-ends
+returns-clause-ends g c = (c.perform-ending.result, c.finish.ensures.finishes, c.finish.ensures.asks)
+
+pub returns-clause-written : goal.returns-clause-written
+returns-clause-written g c contents rest tells off =
+    let p = c.perform-ending.ensures.written contents rest tells off in
+    record {
+      once = p.once;
+      answered = λ few. p.answered (answer-status c.perform-ending.result (g.E.Sink.held c.args.err.now) (g.E.Sink.held c.finish.new.err)
+          (g.E.Sink.faults c.args.err.now) (g.E.Sink.faults c.finish.new.err) c.finish.result.number c.finish.ensures.finishes few);
+    }

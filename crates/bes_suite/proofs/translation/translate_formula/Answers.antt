@@ -1,10 +1,12 @@
-use Rattle.std.proofs.Common.{refl, sym, subst, length}
+use Rattle.std.proofs.Common.{◌<◌, refl, sym, subst, length}
 use Rattle.forms.specs.Tree.{tree}
 use Rattle.bes_suite.specs.declared.endings.Ending.TheVariants.{Positive}
 use Rattle.translate.specs.Counting.{IfTooMany, IsFirstOver}
 use Rattle.bes_suite.specs.Limits.{most_classes}
 use Rattle.bes_suite.specs.Translation.{TranslateAnswers, formula_refused, translated, IsTranslation}
 use Rattle.bes_suite.specs.Worlds.{needs_nothing, Performs}
+use Rattle.bes_suite.specs.Endings.{status_of}
+use Rattle.bes_suite.proofs.CallLemmas.{PutsReply-put, PutsReply-none, no-answer-at-formula, no-answer-at-limit}
 use Rattle.bes_suite.proofs.Performing.{formula-ends, output-put}
 use Rattle.bes_suite.proofs.TranslationLemmas.{limit-ends, translation-due}
 use Rattle.bes_suite.proofs.translation.translate_formula.Goals as goal
@@ -22,7 +24,26 @@ returns-in-Ok-translation_text-clause-performs g c contents failed left reads =
     output-put (λ files rest. TranslateAnswers c.args.dialect c.args.text.now) _ _ c.bytes.result.now
     (λ files rest. subst (λ text. TranslateAnswers c.args.dialect c.args.text.now (record { output = text; ending = Positive })) (sym c.bytes.ensures)
     (translated f c.in-Ok.ensures.formula made))
-    refl refl c.put_all.result c.put_all.ensures
+    refl refl c.put_all.result c.put_all.ensures.ends
+
+pub returns-in-Ok-translation_text-clause-written : goal.returns-in-Ok-translation_text-clause-written
+returns-in-Ok-translation_text-clause-written g c =
+    let f = tree c.in-Ok.read.0 in
+    let made = subst (λ names. IsTranslation names f c.in-Ok-translation_text.text) c.in-Ok.ensures.names c.in-Ok-translation_text.ensures in
+    let due = subst (λ text. TranslateAnswers c.args.dialect c.args.text.now (record { output = text; ending = Positive })) (sym c.bytes.ensures)
+    (translated f c.in-Ok.ensures.formula made) in
+    PutsReply-put g.O.Sink.IsPut (TranslateAnswers c.args.dialect c.args.text.now) c.args.out.now c.put_all.new.out (status_of c.put_all.result)
+    (record { output = c.bytes.result.now; ending = Positive }, due, c.put_all.ensures.put)
+
+pub returns-in-Err-clause-written : goal.returns-in-Err-clause-written
+returns-in-Err-clause-written g c =
+    PutsReply-none g.O.Sink.IsPut (TranslateAnswers c.args.dialect c.args.text.now) c.args.out.now c.args.out.now (status_of c.in-Err.ending) refl
+    (no-answer-at-formula c.args.dialect c.args.text.now c.in-Err.ending c.in-Err.ensures.ending)
+
+pub returns-clause-written : goal.returns-clause-written
+returns-clause-written g c =
+    PutsReply-none g.O.Sink.IsPut (TranslateAnswers c.args.dialect c.args.text.now) c.args.out.now c.args.out.now (status_of c.limit_ending.result) refl
+    (subst (λ e. status_of e < 2 → ⊥) (sym c.limit_ending.ensures) (no-answer-at-limit c.in-Err-translation_text.fault))
 
 pub returns-in-Ok-translation_text-clause-silent : goal.returns-in-Ok-translation_text-clause-silent
 returns-in-Ok-translation_text-clause-silent g c none =

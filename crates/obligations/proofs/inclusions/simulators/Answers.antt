@@ -1,8 +1,9 @@
 use Rattle.std.proofs.Common.{◌≡◌, ◌++◌, true, [], ◌∷◌, sym, ◌∙◌, ap, arith}
 use Rattle.obligations.specs.Related.{related, or_same}
-use Rattle.obligations.proofs.Simulating.{below_push, simulate_push, itself_push, before_skipped, or_same_itself, or_right}
+use Rattle.obligations.proofs.Simulating.{below_push, simulate_push, itself_push, before_skipped, or_same_itself}
 use Rattle.obligations.proofs.inclusions.simulators.Goals as goal
 use Rattle.obligations.proofs.inclusions.simulators.Goals.{then-y-x+in_ok-push, then-y-x-via-then-y-x, then-y-x-via-else-y-x+then-holds, else-y-x+else-holds}
+use Rattle.std.proofs.lemmas.Bool.{or_right}
 
 pub loop-y-preserved : goal.loop-y-preserved
 loop-y-preserved c =

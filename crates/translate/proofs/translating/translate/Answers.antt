@@ -3,9 +3,10 @@ use Rattle.std.proofs.lemmas.Result.{err_from_is_err_and}
 use Rattle.forms.specs.Tree.{tree}
 use Rattle.forms.specs.Parts.{parts}
 use Rattle.forms.specs.Satisfaction.{meets}
-use Rattle.automata.specs.Table.{size_of}
+use Rattle.automata.specs.Table.{size_of, moves_of}
+use Rattle.minimise.proofs.Only.{least_is_only}
 use Rattle.translate.proofs.CountLemmas.{counts_of, counts_within, adds_from, first_over_from, whole_over}
-use Rattle.translate.proofs.MeantLemmas.{whole_made, class_count, least_for, only_least, smallest}
+use Rattle.translate.proofs.MeantLemmas.{whole_made, class_count, least_for}
 use Rattle.translate.proofs.translating.translate.Goals as goal
 
 pub returns-in_err-automaton-clause-too_many : goal.returns-in_err-automaton-clause-too_many
@@ -66,8 +67,8 @@ returns-clause-least c =
     let least = whole_made c.part.new.store s c.in_ok-automaton.automaton t f p kp c.in_ok-automaton.ensures.least c.in_ok-whole.ensures.least in
     least_for s t (λ w. meets p f w) p kw least
 
-pub returns-clause-same_traces : goal.returns-clause-same_traces
-returns-clause-same_traces c =
+pub returns-clause-only : goal.returns-clause-only
+returns-clause-only c =
     let p = c.args.store.now.props in
     let f = tree c.args.form.now in
     let kp = c.in_ok-automaton.ensures.keeps.extends.props in
@@ -75,15 +76,4 @@ returns-clause-same_traces c =
     let s = c.nonempty.new.store in
     let t = c.in_ok-whole.whole in
     let least = whole_made c.part.new.store s c.in_ok-automaton.automaton t f p kp c.in_ok-automaton.ensures.least c.in_ok-whole.ensures.least in
-    only_least s t (λ w. meets p f w) p kw least
-
-pub returns-clause-smallest : goal.returns-clause-smallest
-returns-clause-smallest c =
-    let p = c.args.store.now.props in
-    let f = tree c.args.form.now in
-    let kp = c.in_ok-automaton.ensures.keeps.extends.props in
-    let kw = c.in_ok-whole.ensures.keeps.extends.props ∙ kp in
-    let s = c.nonempty.new.store in
-    let t = c.in_ok-whole.whole in
-    let least = whole_made c.part.new.store s c.in_ok-automaton.automaton t f p kp c.in_ok-automaton.ensures.least c.in_ok-whole.ensures.least in
-    smallest s t (λ w. meets p f w) p kw least
+    least_is_only p (moves_of s t) (λ w. meets p f w) (least_for s t (λ w. meets p f w) p kw least)
