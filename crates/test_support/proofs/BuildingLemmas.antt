@@ -1,15 +1,20 @@
 -- Rows that go by one proposition, and tables of them.
-use Rattle.std.proofs.Common.{◌≡◌, ◌<◌, ◌≤◌, ◌+◌, ◌++◌, ℕ, List, [], ◌∷◌, Bool, true, false, refl, sym, ◌∙◌, ap, arith, inl, inr, length, length-append, Result, Ok, Err, if◌then◌else◌}
-use Rattle.std.specs.Prelude.{slice_index_or, IfOk}
+use Rattle.std.proofs.Common.{◌≡◌, ◌<◌, ◌≤◌, ◌+◌, ◌++◌, ℕ, List, [], ◌∷◌, Bool, true, false, refl, sym, ◌∙◌, ap, arith, inl, inr, length, length-append, Result, Ok, Err, if◌then◌else◌, subst}
+use Rattle.std.specs.Prelude.{slice_index_or, slice_get, Some, IfOk, min, nat_lt}
+use Rattle.std.proofs.lemmas.Bool.{lt-ltb, le-ltb}
+use Rattle.std.proofs.lemmas.Result.{IfOk-weaker}
 use Rattle.std.proofs.lemmas.List.{get_or_append_left, get_or_at}
 use Rattle.diagrams.specs.declared.top.Id.{Id}
 use Rattle.diagrams.specs.Tree.{Assignment}
 use Rattle.diagrams.specs.Branch.{split_value}
 use Rattle.diagrams.specs.Eval.{Diagrams, eval}
 use Rattle.diagrams.specs.Live.{Keeps, Means}
+use Rattle.diagrams.proofs.Meaning.{means_lasts}
 use Rattle.automata.specs.Table.{IsRow}
 use Rattle.automata.proofs.Lasts.{row_lasts}
 use Rattle.automata.proofs.FindingLemmas.{place_cases}
+use Rattle.test_support.specs.declared.building.Location.{Location}
+use Rattle.test_support.specs.Building.{target_at, IsLocation}
 use Rattle.test_support.proofs.DiagramLemmas.{constant_depends}
 
 -- the row that always goes to one location
@@ -51,3 +56,51 @@ pub split_ok : {E : Type 0} (s n : Diagrams) (last var x y : ℕ) (lo hi : Id) �
     → (r : Result Id E) → IfOk r (λ id. Means n id (split_value s var lo hi)) → IfOk r (λ row. (size : ℕ) → last < size → IsRow n size row)
 split_ok s n last var x y lo hi l r h k v (Err e) m = tt
 split_ok s n last var x y lo hi l r h k v (Ok id) m = λ size w. split_row s n size var x y lo hi id l r (omega (arith, h, w)) (omega (arith, k, w)) v m
+
+choice_min : (b : Bool) (x y last : ℕ) → (if b then min y last else min x last) ≡ min (if b then y else x) last
+choice_min true x y last = refl
+choice_min false x y last = refl
+
+-- it leads to its targets, none past the last
+pub split_leads : {E : Type 0} (s n : Diagrams) (last var x y : ℕ) (lo hi : Id) → Means s lo (λ _. min x last) → Means s hi (λ _. min y last) → var < n.props
+    → (r : Result Id E) → IfOk r (λ id. Means n id (split_value s var lo hi)) → IfOk r (λ id. Means n id (target_at n.props last var x y))
+split_leads s n last var x y lo hi l r h result =
+    IfOk-weaker result (λ id. Means n id (split_value s var lo hi)) (λ id. Means n id (target_at n.props last var x y))
+    (λ id m. record {
+      live = m.live;
+      value = λ a. let t : nat_lt var n.props ≡ true = lt-ltb var n.props h in m.value a ∙ (rw (r.value a, l.value a, t) (choice_min (a var) x y last));
+    })
+
+-- where there is no such proposition, a constant leads where the row does
+pub constant_leads : (s : Diagrams) (last var x y : ℕ) (i : Id) → Means s i (λ _. min x last) → s.props ≤ var → Means s i (target_at s.props last var x y)
+constant_leads s last var x y i m h = let f : nat_lt var s.props ≡ false = le-ltb var s.props h in record { live = m.live; value = λ a. m.value a ∙ (rw f refl) }
+
+-- the first so many locations are as they were given
+abbrev pub AreGiven : Diagrams → ℕ → List Location → List ℕ → List Id → ℕ → Type 0
+AreGiven s last table marks rows count =
+    (at : ℕ) (given : Location) → at < count → slice_get table at ≡ Some given → IsLocation s (record { first = 0; marks = marks; rows = rows }) last at given
+
+-- one location more
+pub given_more : (s n : Diagrams) → Keeps s n → (last : ℕ) (table : List Location) (marks : List ℕ) (rows : List Id) (count : ℕ) (new : Location) (id : Id) → length marks ≡ count → length rows ≡ count
+    → AreGiven s last table marks rows count → slice_get table count ≡ Some new → Means n id (target_at n.props last new.1 new.2 new.3)
+    → AreGiven n last table (marks ++ new.0 ∷ []) (rows ++ id ∷ []) (count + 1)
+given_more s n k last table marks rows count new id p q g is m at given l e =
+    elim (place_cases at count l) [
+      | inl h ↦
+          let old = g at given h e in
+          record {
+            mark = get_or_append_left marks (new.0 ∷ []) _ at (rw p h) ∙ old.mark;
+            row =
+                subst (λ p. Means n (slice_index_or (rows ++ id ∷ []) at (record { 0 = 0 })) (target_at p last given.1 given.2 given.3)) (sym k.extends.props)
+                (rw (get_or_append_left rows (id ∷ []) (record { 0 = 0 }) at (rw q h)) (means_lasts s n k _ _ old.row));
+          }
+      | inr h ↦
+          let same : new ≡ given = some_given new given (sym is ∙ ap (slice_get table) (sym h) ∙ e) in
+          record {
+            mark = get_or_at marks new.0 [] _ at (p ∙ sym h) ∙ ap (λ x. x.0) same;
+            row = rw (get_or_at rows id [] (record { 0 = 0 }) at (q ∙ sym h), ← same) m;
+          }
+    ]
+  where
+    some_given : (x y : Location) → Some x ≡ Some y → x ≡ y
+    some_given x y e = cc

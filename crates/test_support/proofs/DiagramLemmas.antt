@@ -1,6 +1,5 @@
 -- Small functions, and operations on them.
-use Rattle.std.proofs.Common.{◌≡◌, ℕ, ◌<◌, arith, Bool, true, false, if◌then◌else◌, refl, sym, ◌∙◌, ap, Result, IfOk, [], ◌∷◌, zero, suc}
-use Rattle.std.proofs.lemmas.Result.{IfOk-weaker}
+use Rattle.std.proofs.Common.{◌≡◌, ℕ, ◌<◌, arith, true, refl, sym, ◌∙◌, [], ◌∷◌, zero, suc}
 use Rattle.diagrams.specs.declared.top.Id.{Id}
 use Rattle.diagrams.specs.declared.work.Op.{Op}
 use Rattle.diagrams.specs.declared.work.Op.TheVariants.{Pair}
@@ -10,25 +9,19 @@ use Rattle.diagrams.specs.Live.{IsTruth, Means}
 use Rattle.diagrams.specs.Work.{CanApply, CanCombine, combined_value}
 use Rattle.diagrams.specs.Composed.{AllTruths, IsOverObligations, IsObligation}
 use Rattle.diagrams.proofs.DependsLemmas.{over_weaker}
+use Rattle.diagrams.proofs.Literals.{literal_small, literal_same}
 
 -- a constant depends on nothing
 pub constant_depends : (s : Diagrams) (i : Id) (x : ℕ) (P : ℕ → Type 0) → Means s i (λ _. x) → DependsOn s i P
 constant_depends s i x P m a b same = m.value a ∙ sym (m.value b)
 
-choice_small : (b : Bool) → (if b then 1 else 0) < 2
-choice_small true = omega arith
-choice_small false = omega arith
-
 -- the function that is 1 where a variable is true has the terminals 0 and 1
-pub variable_truth : {E : Type 0} (r : Result Id E) (n : Diagrams) (v : ℕ) → IfOk r (λ id. Means n id (literal_value v)) → IfOk r (IsTruth n)
-variable_truth r n v =
-    IfOk-weaker r (λ id. Means n id (literal_value v)) (IsTruth n) (λ id m. record { live = m.live; truth = λ a. rw (m.value a) (choice_small (a v)) })
+pub literal_truth : (n : Diagrams) (i : Id) (v : ℕ) → Means n i (literal_value v) → IsTruth n i
+literal_truth n i v m = record { live = m.live; truth = λ a. rw (m.value a) (literal_small v a) }
 
 -- and it depends on that variable alone
-pub variable_over : {E : Type 0} (r : Result Id E) (n : Diagrams) (v : ℕ) → IfOk r (λ id. Means n id (literal_value v)) → IfOk r (λ id. DependsOn n id (λ w. w ≡ v))
-variable_over r n v =
-    IfOk-weaker r (λ id. Means n id (literal_value v)) (λ id. DependsOn n id (λ w. w ≡ v))
-    (λ id m a b same. m.value a ∙ ap (λ c. if c then 1 else 0) (same v refl) ∙ sym (m.value b))
+pub literal_over : (n : Diagrams) (i : Id) (v : ℕ) → Means n i (literal_value v) → DependsOn n i (λ w. w ≡ v)
+literal_over n i v m a b same = m.value a ∙ literal_same v a b (same v refl) ∙ sym (m.value b)
 
 -- an operation on functions with the terminals 0 and 1
 pub can_combine : (s : Diagrams) (op : Op) → ((x y : ℕ) → x < 2 → y < 2 → CanApply op x y) → (f g : Id) → IsTruth s f → IsTruth s g → CanCombine s op f g

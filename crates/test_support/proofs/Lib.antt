@@ -1,4 +1,2 @@
 pub mod DiagramLemmas
 pub mod BuildingLemmas
-pub mod TableLemmas
-pub mod PropositionLemmas

@@ -1,7 +1,10 @@
 //! Automata made by their rows.
-ghost use Rattle.std.specs.Prelude.{◌≡◌, ◌<◌, ℕ, All, length, IsTrue, IfOk};
-ghost use Rattle.diagrams.specs.Live.{Keeps};
-ghost use Rattle.automata.specs.Table.{size_of, mark_of, IsRow, Fits};
+ghost use Rattle.std.specs.Prelude.{◌≡◌, ◌<◌, ◌↔◌, ℕ, All, length, IsTrue, IfOk};
+ghost use Rattle.diagrams.specs.Live.{Keeps, Means};
+ghost use Rattle.automata.specs.Moves.{accepts};
+ghost use Rattle.automata.specs.Table.{size_of, mark_of, moves_of, IsRow, Fits};
+ghost use Rattle.automata.specs.Listing.{Lists};
+ghost use Rattle.test_support.specs.Building.{target_at, IsBuilt};
 
 use automata::{Automaton, print_table};
 use bes_io::{Memory, Text};
@@ -15,10 +18,12 @@ const MOST: usize = 1000;
 #[derive(Clone, Copy)]
 pub struct Location(pub u32, pub u32, pub u32, pub u32);
 
-/// A row that goes by one proposition, or always to `lo` where there is no such proposition.
+/// A row that goes by one proposition, or always to `lo` where there is no such proposition. A
+/// location past the last stands for the last.
 pub fn row(store: &mut Store, last: u32, var: u32, lo: u32, hi: u32) -> Result<Id, Memory>
     ensures keeps { Keeps store.old store.new }
     ensures row { IfOk result (λ row. (size : ℕ) → last < size → IsRow store.new size row) }
+    ensures leads { IfOk result (λ row. Means store.new row (target_at store.new.props last var lo hi)) }
 {
     let on_false = store.terminal(lo.min(last))?;
     if var >= store.props() {
@@ -28,7 +33,7 @@ pub fn row(store: &mut Store, last: u32, var: u32, lo: u32, hi: u32) -> Result<I
     store.node(var, on_false, on_true)
 }
 
-/// The automaton of these locations.
+/// The automaton of these locations. A location past the last stands for the last.
 pub fn automaton_of(
     alloc: Global,
     store: &mut Store,
@@ -37,9 +42,10 @@ pub fn automaton_of(
 ) -> Result<Automaton, Memory>
     ensures keeps { Keeps store.old store.new }
     ensures size { IfOk result (λ made. size_of made ≡ length table.now) }
+    ensures built { IfOk result (IsBuilt store.new first table.now) }
     ensures fits { IfOk result (Fits store.new) }
 {
-    let _ = store.terminal(0)?;
+    prove!(store.props() <= 32);
     if table.is_empty() || table.len() > MOST {
         return Err(Memory);
     }
@@ -55,7 +61,7 @@ pub fn automaton_of(
 
 /// Whether all marks are 0 or 1.
 pub fn has_small_marks(automaton: &Automaton) -> bool
-    ensures { IsTrue result → (at : ℕ) → at < size_of automaton.now → mark_of automaton.now at < 2 }
+    ensures { IsTrue result ↔ ((at : ℕ) → at < size_of automaton.now → mark_of automaton.now at < 2) }
 {
     for at in 0..automaton.size() {
         if automaton.mark(at) > 1 {
@@ -68,6 +74,7 @@ pub fn has_small_marks(automaton: &Automaton) -> bool
 /// The lines of an automaton. A mark that is not 0 or 1 fails the test.
 pub fn listing(alloc: Global, store: &Store, automaton: &Automaton) -> Result<Text, Memory>
     requires { Fits store.now automaton.now }
+    ensures { IfOk result (Lists store.now automaton.now (size_of automaton.now)) }
 {
     if !has_small_marks(automaton) {
         return Err(Memory);
@@ -77,7 +84,7 @@ pub fn listing(alloc: Global, store: &Store, automaton: &Automaton) -> Result<Te
 
 /// Whether all numbers of a word are below one.
 pub fn are_below(word: &[u64], limit: u64) -> bool
-    ensures { IsTrue result → All (λ a. a < limit) word.now }
+    ensures { IsTrue result ↔ All (λ a. a < limit) word.now }
 {
     word.iter().all(|letter| *letter < limit)
 }
@@ -86,6 +93,7 @@ pub fn are_below(word: &[u64], limit: u64) -> bool
 pub fn accepted(store: &Store, made: &Automaton, word: &[u64]) -> Result<bool, Memory>
     requires props { store.now.props ≡ 2 }
     requires fits { Fits store.now made.now }
+    ensures { IfOk result (λ answer. answer ≡ accepts (moves_of store.now made.now) word.now) }
 {
     if !are_below(word, 4) {
         return Err(Memory);

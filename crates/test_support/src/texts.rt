@@ -1,4 +1,7 @@
 //! Texts too long to be written out.
+ghost use Rattle.std.specs.Prelude.{◌≡◌, ◌++◌, IfOk, string_bytes};
+ghost use Rattle.std.specs.List.{repeat};
+
 use bes_io::Memory;
 use std::alloc::Global;
 
@@ -12,11 +15,12 @@ pub fn repeated(
     piece: &str,
     times: usize,
     tail: &str,
-) -> Result<String, Memory> {
+) -> Result<String, Memory>
+    ensures { IfOk result (λ text. string_bytes text ≡ head.now ++ repeat times piece.now ++ tail.now) }
+{
     let mut text = head.to_string(alloc)?;
-    for _ in 0..times {
-        text.push_str(piece)?;
-    }
+    let pieces = piece.repeat(alloc, times)?;
+    text.push_str(&pieces)?;
     text.push_str(tail)?;
     Ok(text)
 }

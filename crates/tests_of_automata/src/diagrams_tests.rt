@@ -10,7 +10,7 @@ ghost use Rattle.diagrams.specs.Composed.{AllTruths, IsOverObligations};
 use bes_io::Memory;
 use diagrams::{ComposeMemo, Cubes, Id, Memo, Op, Store};
 use std::alloc::Global;
-use test_support::{literal, row};
+use test_support::row;
 
 // A store of two propositions, a and b.
 fn pair(alloc: Global) -> Result<(Store, Id, Id), Memory>
@@ -21,8 +21,8 @@ fn pair(alloc: Global) -> Result<(Store, Id, Id), Memory>
     ensures b_over { IfOk result (λ made. DependsOn made.0 made.2 (λ v. v < 2)) }
 {
     let mut store = Store::new(alloc, 2)?;
-    let a = literal(&mut store, 0)?;
-    let b = literal(&mut store, 1)?;
+    let a = store.literal(0)?;
+    let b = store.literal(1)?;
     Ok((store, a, b))
 }
 
@@ -103,7 +103,7 @@ fn picked(alloc: Global, var: u32, from: u32) -> Result<u32, Memory>
     requires from { from ≤ 2 }
 {
     let mut store = Store::new(alloc, 2)?;
-    let f = literal(&mut store, var)?;
+    let f = store.literal(var)?;
     let least = store.pick(f, from, 2)?;
     Ok(values(&store, least))
 }
@@ -140,7 +140,7 @@ fn obligation(alloc: Global) -> Result<(Store, Id, [Id; 2]), Memory>
     ensures cells { IfOk result (λ made. AllTruths made.0 made.2) }
 {
     let (mut store, a, b) = pair(alloc)?;
-    let second = literal(&mut store, 3)?;
+    let second = store.literal(3)?;
     Ok((store, second, [b, a]))
 }
 
@@ -201,7 +201,7 @@ fn variable(alloc: Global, var: u32, from: u32) -> Result<Cubes, Memory>
     requires before { var < 2 }
 {
     let mut store = Store::new(alloc, 2)?;
-    let f = literal(&mut store, var)?;
+    let f = store.literal(var)?;
     store.cubes(alloc, f, from, 2)
 }
 

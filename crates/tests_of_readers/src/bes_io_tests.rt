@@ -2,6 +2,7 @@
 use bes_io::*;
 use std::alloc::Global;
 use std::fs;
+use std::io::{self, BufWriter, ErrorKind, Read};
 use std::test::Fail;
 
 // An input: so many times `a`, and then a tail; the most bytes of a call, the calls that fail, and what the reader finds.
@@ -197,6 +198,61 @@ fn real_streams(rt: HostRuntime) -> Result<(), Fail> {
     let mut folder = StdSource::new(fs::open(&rt, ".")?);
     let notes = notes_of(rt.alloc(), 5, &mut folder, 2)?;
     assert_eq!(rt; notes.bytes(), b"ReadFault|ReadFault|".as_slice());
+    Ok(())
+}
+
+// A reader that a signal interrupts at its first call.
+#[derive(Drop)]
+struct Interrupted {
+    again: bool,
+}
+
+impl Read for Interrupted {
+    fn read(&mut self, into: &mut [u8]) -> io::Result<usize> {
+        if !self.again {
+            self.again = true;
+            return Err(ErrorKind::Interrupted.into());
+        }
+        match into.first_mut() {
+            Some(byte) => *byte = b'a',
+            None => return Ok(0),
+        }
+        Ok(1)
+    }
+}
+
+#[test]
+fn an_interrupted_read_is_made_again(rt: HostRuntime) -> Result<(), Fail> {
+    let mut source = StdSource::new(Interrupted { again: false });
+    let mut into = [b'-'; 2];
+    assert_eq!(rt; source.take(&mut into), Ok(1));
+    assert_eq!(rt; into, *b"a-");
+    Ok(())
+}
+
+#[test]
+fn each_piece_is_flushed(rt: HostRuntime) -> Result<(), Fail> {
+    let file = fs::create(&rt, "flushed")?;
+    let mut sink = StdSink::new(BufWriter::new(rt.alloc(), file)?);
+    assert_eq!(rt; sink.put(b"ab"), Ok(()));
+    let mut files = StdFiles::new(&rt, rt.alloc());
+    let name = Word::new(rt.alloc(), b"flushed")?;
+    assert_eq!(rt;
+        files.read(rt.alloc(), &name, 9)?.as_slice(),
+        b"ab".as_slice()
+    );
+    Ok(())
+}
+
+#[test]
+fn a_long_file_is_read_whole_or_to_its_limit(rt: HostRuntime) -> Result<(), Fail> {
+    let mut long = [b'a'; 5000];
+    long[4999] = b'b';
+    assert_eq!(rt; StdSink::new(fs::create(&rt, "long")?).put(&long), Ok(()));
+    let mut files = StdFiles::new(&rt, rt.alloc());
+    let name = Word::new(rt.alloc(), b"long")?;
+    assert!(rt; files.read(rt.alloc(), &name, 9000)?.as_slice() == long.as_slice());
+    assert!(rt; files.read(rt.alloc(), &name, 4500)?.as_slice() == &long[..4500]);
     Ok(())
 }
 

@@ -6,4 +6,8 @@ mod obligations_tests;
 #[cfg(test)]
 mod path_programs_tests;
 #[cfg(test)]
+mod propositions;
+#[cfg(test)]
+mod tables;
+#[cfg(test)]
 mod translate_tests;

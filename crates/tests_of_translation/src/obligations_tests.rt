@@ -6,14 +6,13 @@ ghost use Rattle.obligations.specs.Value.{FitsCells};
 ghost use Rattle.obligations.specs.Inclusion.{IsWider};
 ghost use Rattle.obligations.specs.Followed.{wider_of};
 
+use crate::tables::{A, B, Entry, FIRST, SECOND, THIRD, cells_of, conjunction};
 use automata::Automaton;
 use bes_io::Memory;
 use diagrams::Store;
 use obligations::{Cells, Inclusions, determinise, find_inclusions, follow, themselves};
 use std::alloc::Global;
-use test_support::{
-    A, B, Entry, FIRST, Location, SECOND, THIRD, accepted, automaton_of, cells_of, conjunction,
-};
+use test_support::{Location, accepted, automaton_of};
 
 // The automaton of a conjunction of obligations, once those of the locations of another are added.
 fn followed(

@@ -6,6 +6,8 @@ ghost use Rattle.automata.specs.Table.{IsMeant};
 ghost use Rattle.obligations.specs.Value.{FitsCells};
 ghost use Rattle.path_programs.specs.PathTests.{test_forms};
 
+use crate::propositions::{proposition, truth};
+use crate::tables::{A, B, Entry, FIRST, cells_of, conjunction};
 use automata::Meant;
 use bes_io::Memory;
 use diagrams::Store;
@@ -13,7 +15,7 @@ use forms::{Form, Path};
 use obligations::{Cells, determinise};
 use path_programs::compile;
 use std::alloc::Global;
-use test_support::{A, B, Entry, FIRST, accepted, cells_of, conjunction, proposition, truth};
+use test_support::accepted;
 
 // The obligation that no letter is left, and the one that a and b hold.
 const END: u32 = 0;

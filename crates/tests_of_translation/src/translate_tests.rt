@@ -5,6 +5,8 @@ ghost use Rattle.forms.specs.Proper.{IsProper};
 ghost use Rattle.diagrams.specs.Live.{Keeps};
 ghost use Rattle.automata.specs.Table.{Fits, IsMeant};
 
+use crate::propositions::a_and_b;
+use crate::tables::{A, B};
 use automata::{Automaton, Meant};
 use bes_io::Memory;
 use diagrams::Store;
@@ -12,7 +14,7 @@ use form_reader::{Dialect, Names, read_form};
 use forms::{Form, Path};
 use std::alloc::Global;
 use std::test::Fail;
-use test_support::{A, B, a_and_b, accepted};
+use test_support::accepted;
 use translate::{Counts, TranslateFault, Translated, both, either, negate, translate};
 
 // Words, and the same after a first letter.

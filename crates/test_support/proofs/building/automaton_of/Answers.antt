@@ -1,14 +1,17 @@
-use Rattle.std.proofs.Common.{◌≡◌, ◌≢◌, ◌+◌, arith, sym, ◌∙◌, ap, length, length-append}
+use Rattle.std.proofs.Common.{◌≡◌, ◌≢◌, ◌+◌, arith, sym, ◌∙◌, ap, length, length-append, ◌-◌}
 use Rattle.std.proofs.lemmas.Bool.{eqb-false}
-use Rattle.diagrams.proofs.Meaning.{Keeps_trans}
-use Rattle.test_support.proofs.BuildingLemmas.{good_more}
+use Rattle.diagrams.proofs.Meaning.{Keeps_trans, Keeps_refl}
+use Rattle.test_support.proofs.BuildingLemmas.{good_more, given_more}
+use Rattle.std.specs.Prelude.{slice_index}
+use Rattle.std.proofs.lemmas.Option.{slice_get-get_or, slice_get_within}
 use Rattle.test_support.proofs.building.automaton_of.Goals as goal
 
 pub loop-mark-init : goal.loop-mark-init
 loop-mark-init c = record {
-  keeps = c.in_ok-terminal.ensures.keeps;
+  keeps = Keeps_refl c.args.store.now c.props.ensures.canonical;
   marks = ap length c.new-marks.ensures.items;
   rows = (ap length c.new-rows.ensures.items, λ k h. absurd (omega (arith, h)));
+  given = λ at given h. absurd (omega (arith, h));
 }
 
 pub loop-mark-preserved : goal.loop-mark-preserved
@@ -21,6 +24,9 @@ loop-mark-preserved c =
       rows = rw (c.in_ok-push-2.ensures.items)
           (good_more c.loop-mark.store c.row.new.store (length c.args.table.now) c.loop-mark.rows.items c.loop-mark.mark-index c.in_ok-row.field-0 c.in_ok-row.ensures.keeps v.rows
           (c.in_ok-row.ensures.row (length c.args.table.now) (omega (arith, some))));
+      given = rw (c.in_ok-push.ensures.items, c.in_ok-push-2.ensures.items)
+          (given_more c.loop-mark.store c.row.new.store c.in_ok-row.ensures.keeps (length c.args.table.now - 1) c.args.table.now c.loop-mark.marks.items c.loop-mark.rows.items c.loop-mark.mark-index _
+          c.in_ok-row.field-0 v.marks v.rows.0 v.given (slice_get-get_or c.args.table.now c.loop-mark.mark-index _ c.loop-mark-test.true) c.in_ok-row.ensures.leads);
     }
 
 pub new-requires : goal.new-requires
@@ -40,5 +46,11 @@ returns c =
     record {
       keeps = v.keeps;
       size = ap length c.new.ensures.rows ∙ long;
+      built = record {
+        first = c.new.ensures.first ∙ c.min.ensures;
+        locations = λ at given e.
+            let old = v.given at given (omega (arith, slice_get_within c.args.table.now at given e)) e in
+            record { mark = ap (λ xs. slice_index xs at) c.new.ensures.marks ∙ old.mark; row = rw c.new.ensures.rows old.row };
+      };
       fits = λ at h. rw (c.new.ensures.rows, long) (v.rows.1 at (omega (arith, h, ap length c.new.ensures.rows, v.rows.0)));
     }

@@ -2,7 +2,7 @@ use Rattle.forms.specs.Tree.{Atom}
 use Rattle.diagrams.proofs.Meaning.{Keeps_trans}
 use Rattle.automata.proofs.Lasts.{meant_lasts}
 use Rattle.obligations.proofs.Holds.{fits_cells_lasts}
-use Rattle.test_support.proofs.PropositionLemmas.{two_meant}
+use Rattle.tests_of_translation.proofs.PropositionLemmas.{two_meant}
 use Rattle.tests_of_translation.proofs.path_programs_tests.with_test_and_true.Goals as goal
 
 pub agree-requires-clause-fits : goal.agree-requires-clause-fits

@@ -1,8 +1,8 @@
 use Rattle.std.proofs.Common.{◌<◌, ◌∙◌}
 use Rattle.diagrams.proofs.Meaning.{Keeps_trans, means_lasts}
 use Rattle.diagrams.proofs.DependsLemmas.{constant_over}
-use Rattle.test_support.proofs.PropositionLemmas.{row_means, proposition_meant}
-use Rattle.test_support.proofs.propositions.proposition.Goals as goal
+use Rattle.tests_of_translation.proofs.PropositionLemmas.{row_means, proposition_meant}
+use Rattle.tests_of_translation.proofs.propositions.proposition.Goals as goal
 
 pub node-requires-clause-hi_above : goal.node-requires-clause-hi_above
 node-requires-clause-hi_above c = constant_over _ _ c.terminal-2.ensures.keeps c.in_ok-one.one 1 (λ v. c.args.i < v) c.in_ok-one.ensures.id

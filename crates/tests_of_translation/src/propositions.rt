@@ -12,7 +12,7 @@ use forms::Form;
 use std::alloc::Global;
 
 /// A proposition, with the automaton that goes by the first letter to a location that accepts or to one that doesn't.
-pub fn proposition(alloc: Global, store: &mut Store, i: u32) -> Result<Meant, Memory>
+pub(crate) fn proposition(alloc: Global, store: &mut Store, i: u32) -> Result<Meant, Memory>
     requires { i < store.old.props }
     ensures keeps { Keeps store.old store.new }
     ensures form { IfOk result (λ made. tree made.form ≡ Atom i) }
@@ -31,7 +31,7 @@ pub fn proposition(alloc: Global, store: &mut Store, i: u32) -> Result<Meant, Me
 }
 
 /// The formula that is always true, with the automaton of one location that accepts.
-pub fn truth(alloc: Global, store: &mut Store) -> Result<Meant, Memory>
+pub(crate) fn truth(alloc: Global, store: &mut Store) -> Result<Meant, Memory>
     ensures keeps { Keeps store.old store.new }
     ensures form { IfOk result (λ made. tree made.form ≡ True) }
     ensures meant { IfOk result (λ made. IsMeant store.new made.automaton True) }
@@ -47,7 +47,7 @@ pub fn truth(alloc: Global, store: &mut Store) -> Result<Meant, Memory>
 }
 
 /// Both propositions of a store.
-pub fn a_and_b(alloc: Global, store: &mut Store) -> Result<(Meant, Meant), Memory>
+pub(crate) fn a_and_b(alloc: Global, store: &mut Store) -> Result<(Meant, Meant), Memory>
     requires { store.old.props ≡ 2 }
     ensures keeps { Keeps store.old store.new }
     ensures a { IfOk result (λ made. IsMeant store.new made.0.automaton (tree made.0.form)) }

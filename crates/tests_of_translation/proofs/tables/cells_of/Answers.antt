@@ -1,7 +1,7 @@
 use Rattle.std.proofs.Common.{arith}
 use Rattle.diagrams.proofs.Meaning.{Keeps_trans}
-use Rattle.test_support.proofs.TableLemmas.{table_first, table_next, table_done}
-use Rattle.test_support.proofs.tables.cells_of.Goals as goal
+use Rattle.tests_of_translation.proofs.TableLemmas.{table_first, table_next, table_done}
+use Rattle.tests_of_translation.proofs.tables.cells_of.Goals as goal
 
 pub loop-ends-init : goal.loop-ends-init
 loop-ends-init c = table_first c.args.store.now c.requires.canonical c.args.count _ c.new-cells.ensures

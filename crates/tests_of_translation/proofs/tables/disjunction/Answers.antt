@@ -1,8 +1,8 @@
 use Rattle.std.proofs.Common.{arith}
 use Rattle.diagrams.specs.declared.work.Op.TheVariants.{Or}
 use Rattle.diagrams.proofs.Meaning.{live_lasts}
-use Rattle.test_support.proofs.TableLemmas.{made_first, made_next, or_small, can_or, over_before}
-use Rattle.test_support.proofs.tables.disjunction.Goals as goal
+use Rattle.tests_of_translation.proofs.TableLemmas.{made_first, made_next, or_small, can_or, over_before}
+use Rattle.tests_of_translation.proofs.tables.disjunction.Goals as goal
 
 pub loop-term-init : goal.loop-term-init
 loop-term-init c = made_first c.args.store.now c.terminal.new.self 0 c.args.to 0 _ (omega arith) c.terminal.ensures.keeps c.in_ok-whole.ensures.id

@@ -1,6 +1,6 @@
 use Rattle.std.proofs.Common.{◌∙◌}
-use Rattle.test_support.proofs.PropositionLemmas.{truth_meant}
-use Rattle.test_support.proofs.propositions.truth.Goals as goal
+use Rattle.tests_of_translation.proofs.PropositionLemmas.{truth_meant}
+use Rattle.tests_of_translation.proofs.propositions.truth.Goals as goal
 
 pub returns-clause-meant : goal.returns-clause-meant
 returns-clause-meant c =

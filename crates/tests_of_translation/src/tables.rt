@@ -10,32 +10,23 @@ use obligations::Cells;
 use std::alloc::Global;
 
 /// Proposition 0 is a, of weight 2 in a letter.
-pub const A: u32 = 0;
+pub(crate) const A: u32 = 0;
 
 /// Proposition 1 is b, of weight 1.
-pub const B: u32 = 1;
+pub(crate) const B: u32 = 1;
 
 /// The variables of obligations 0, 1 and 2.
-pub const FIRST: u32 = 2;
+pub(crate) const FIRST: u32 = 2;
 
-pub const SECOND: u32 = 3;
+pub(crate) const SECOND: u32 = 3;
 
-pub const THIRD: u32 = 4;
+pub(crate) const THIRD: u32 = 4;
 
 /// An obligation: its end value, and its body as a disjunction of conjunctions of variables.
-pub type Entry<'a> = (bool, &'a [&'a [u32]]);
-
-/// The function that is 1 where a variable is true, and else 0.
-pub fn literal(store: &mut Store, var: u32) -> Result<Id, Memory>
-    ensures keeps { Keeps store.old store.new }
-    ensures truth { IfOk result (IsTruth store.new) }
-    ensures over { IfOk result (λ id. DependsOn store.new id (λ v. v ≡ var)) }
-{
-    store.literal(var)
-}
+pub(crate) type Entry<'a> = (bool, &'a [&'a [u32]]);
 
 /// The conjunction of variables. One that is not from `from` to before `to` fails the test.
-pub fn conjunction(store: &mut Store, from: u32, to: u32, vars: &[u32]) -> Result<Id, Memory>
+pub(crate) fn conjunction(store: &mut Store, from: u32, to: u32, vars: &[u32]) -> Result<Id, Memory>
     ensures keeps { Keeps store.old store.new }
     ensures truth { IfOk result (IsTruth store.new) }
     ensures over { IfOk result (λ id. DependsOn store.new id (λ v. (from ≤ v) × (v < to))) }
@@ -45,7 +36,7 @@ pub fn conjunction(store: &mut Store, from: u32, to: u32, vars: &[u32]) -> Resul
         if *var < from || *var >= to {
             return Err(Memory);
         }
-        let next = literal(store, *var)?;
+        let next = store.literal(*var)?;
         whole = store.combine(Op::And, whole, next)?;
     }
     Ok(whole)
@@ -66,7 +57,7 @@ fn disjunction(store: &mut Store, to: u32, terms: &[&[u32]]) -> Result<Id, Memor
 }
 
 /// The table of these obligations, which may speak of `count` of them. Another number of entries fails the test.
-pub fn cells_of(
+pub(crate) fn cells_of(
     alloc: Global,
     store: &mut Store,
     count: u32,

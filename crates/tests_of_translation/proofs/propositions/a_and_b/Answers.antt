@@ -1,6 +1,6 @@
 use Rattle.forms.specs.Tree.{tree}
 use Rattle.automata.proofs.Lasts.{meant_lasts}
-use Rattle.test_support.proofs.propositions.a_and_b.Goals as goal
+use Rattle.tests_of_translation.proofs.propositions.a_and_b.Goals as goal
 
 pub returns-clause-a : goal.returns-clause-a
 returns-clause-a c =

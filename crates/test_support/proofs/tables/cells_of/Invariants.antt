@@ -1,5 +1,0 @@
-use Rattle.test_support.proofs.TableLemmas.{IsTable}
-use Rattle.test_support.proofs.tables.cells_of.Given as goal
-
-abbrev pub invariant-loop-ends : goal.invariant-loop-ends
-invariant-loop-ends l = IsTable l.fn.store l.store l.count l.cells

@@ -1,5 +1,0 @@
-use Rattle.test_support.proofs.TableLemmas.{IsMade}
-use Rattle.test_support.proofs.tables.conjunction.Given as goal
-
-abbrev pub invariant-loop-var : goal.invariant-loop-var
-invariant-loop-var l = IsMade l.fn.store l.store l.from l.to l.whole
