@@ -41,10 +41,19 @@ SinkFails s piece = Contains s.fails (counted s.calls) ⊎ (s.room < length s.by
 abbrev pub added_partly : MemorySink → List ℕ → List ℕ
 added_partly s piece = take (min s.partly (s.room - length s.bytes)) piece
 
--- one call of `put`: it is counted, and adds the whole piece or what a call that fails still adds
+-- a call of `put` is counted and adds these bytes; the faults are these, and nothing else changes
+pub record HasAdded (before : MemorySink) (bytes : List ℕ) (faults : ℕ) (after : MemorySink) : Type 0 where
+  pub bytes_now : after.bytes ≡ before.bytes ++ bytes
+  pub faults_now : after.faults ≡ faults
+  pub calls : after.calls ≡ counted before.calls
+  pub room : after.room ≡ before.room
+  pub partly : after.partly ≡ before.partly
+  pub fails : after.fails ≡ before.fails
+
+-- one call of `put` adds the whole piece, or fails, and then adds what a call that fails still adds, and the fault is counted
 abbrev pub IsMemPut : MemorySink → List ℕ → MemorySink → Type 0
-IsMemPut before piece after = (after.calls ≡ counted before.calls)
-    × ((after.bytes ≡ before.bytes ++ piece) ⊎ (after.bytes ≡ before.bytes ++ added_partly before piece))
+IsMemPut before piece after = ((¬ SinkFails before piece) × HasAdded before piece before.faults after)
+    ⊎ (SinkFails before piece × HasAdded before (added_partly before piece) (counted before.faults) after)
 
 -- the bytes of the file with this name
 abbrev pub file_at : List (List ℕ) → List (List ℕ) → List ℕ → Option (List ℕ)

@@ -1,8 +1,8 @@
 -- What contracts see of the real outside: how often it failed, and its reader or writer, of which the clauses `reads` and
 -- `writes` pass on what std told.
-use Rattle.std.specs.Prelude.{◌⊎◌, ℕ, List, Option, None}
+use Rattle.std.specs.Prelude.{◌≡◌, ◌⊎◌, ℕ, List, Option, None}
 use Rattle.std.specs.Io.KnownBytes.{Appends}
-use Rattle.bes_io.specs.Causes.{Rose}
+use Rattle.bes_io.specs.Forms.{counted}
 use Rattle.bes_io.specs.declared.standard.StdSource.{StdSource}
 use Rattle.bes_io.specs.declared.standard.StdSink.{StdSink}
 use Rattle.bes_io.specs.declared.standard.StdFiles.{StdFiles}
@@ -39,6 +39,7 @@ told_left source = None
 abbrev pub told_held : {W : Type 0} → StdSink W → Option (List ℕ)
 told_held sink = None
 
--- one call of `put`: the writer took the whole piece, by what writers tell, or the count of faults rose
+-- one call of `put`: the writer took the whole piece, by what writers tell, and the faults stand; or one more is counted
 abbrev pub IsStdPut : {W : Type 0} → (W → Option (List ℕ)) → StdSink W → List ℕ → StdSink W → Type 0
-IsStdPut contents before piece after = Appends (contents before.writer) (contents after.writer) piece ⊎ Rose before.faults after.faults
+IsStdPut contents before piece after = (Appends (contents before.writer) (contents after.writer) piece × (after.faults ≡ before.faults))
+    ⊎ (after.faults ≡ counted before.faults)

@@ -23,9 +23,9 @@ pub enum Found {
 /// Why a call found nothing. Where one byte causes both of the last two, the answer is `InputTooLong`.
 #[derive(Debug, Clone, Copy, PartialEq, Eq)]
 pub enum LineFault {
-    /// The source failed. The bytes gathered stay, and the next call goes on with them.
+    /// The source failed. What was gathered is kept for the next call.
     ReadFault,
-    /// 4,097 bytes of a line came without an LF among them. Each later call answers it again.
+    /// The line has 4,097 bytes and no LF yet. Each later call answers it again.
     LineTooLong,
     /// One byte more than the reader allows came as part of this line, whose LF counts. Each later call answers it again.
     InputTooLong,
@@ -47,7 +47,7 @@ pub enum Phase {
 const ROOM: usize = 4097;
 
 /// Finds the lines of a source, one a call, and takes no memory. A line ends at LF, and a CR right before the LF is no part
-/// of it; a last line without LF counts if it has a byte.
+/// of it; bytes after the last LF are a line too.
 #[derive(Drop)]
 pub struct LineReader {
     most: u64,
