@@ -1,6 +1,6 @@
 //! Each object of the outside failing in turn. A fault that is set for one call more than a run makes changes nothing.
 use crate::runs::{
-    AFTER_TEN, ALWAYS_A, UNFINISHED, at_err, at_input, at_out, check, ends, ends_by_a_fault,
+    AFTER_TEN, ALWAYS_A, UNFINISHED, at_err, at_input, at_out, check, done, ends, ends_by_a_fault,
 };
 use std::test::Fail;
 
@@ -16,6 +16,24 @@ fn a_failing_call_ends_the_judging(rt: HostRuntime) -> Result<(), Fail> {
         (at_out(&[2], 0), ends(b"true\n", b"", 0)),
     ] {
         check(&rt, rt.alloc(), &words, b"b\na\n", &faults, &wanted)?;
+    }
+    Ok(())
+}
+
+// A command, the read of its input that fails, and what the input gives next.
+const BROKEN: [(&str, u64, &[u8]); 4] = [
+    ("judge", 1, b"b\na"),
+    ("judge", 2, b"\n"),
+    ("monitor", 1, b"b\na"),
+    ("monitor", 2, b"\n"),
+];
+
+#[test]
+fn a_broken_input_is_not_asked_again(rt: HostRuntime) -> Result<(), Fail> {
+    for (command, read, next) in BROKEN {
+        let words = [command, "ltlf", "F a"];
+        let ran = done(rt.alloc(), &words, b"b\na\n", &at_input(&[read]))?;
+        assert_eq!(rt; ran.next.as_slice(), next, "what {command} left");
     }
     Ok(())
 }

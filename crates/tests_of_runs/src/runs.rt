@@ -1,5 +1,5 @@
 //! Whole runs over memory.
-use bes_io::{MemFiles, MemSink, MemSource, Memory, Word};
+use bes_io::{MemFiles, MemSink, MemSource, Memory, Source, Word};
 use bes_suite::run;
 use std::alloc::Global;
 use std::process::Abort;
@@ -87,12 +87,21 @@ fn words_of(alloc: Global, texts: &[&str]) -> Result<Vec<Word>, Memory> {
     Ok(words)
 }
 
-/// What a run put and answered.
+/// What a run put and answered, and the bytes that its input gives next.
 #[derive(Drop)]
 pub(crate) struct Ran {
     pub(crate) output: Vec<u8>,
     pub(crate) message: Vec<u8>,
     pub(crate) status: u8,
+    pub(crate) next: Vec<u8>,
+}
+
+fn next_of(alloc: Global, input: &mut MemSource) -> Result<Vec<u8>, Memory> {
+    let mut piece = [0u8; 8];
+    match input.take(&mut piece[..]) {
+        Ok(n) => Ok(piece[..n].to_vec(alloc)?),
+        Err(_) => Ok(Vec::new(alloc)),
+    }
 }
 
 /// Runs these words over an input, under faults.
@@ -112,6 +121,7 @@ pub(crate) fn done(
         output: out.bytes().to_vec(alloc)?,
         message: err.bytes().to_vec(alloc)?,
         status: status.number,
+        next: next_of(alloc, &mut input)?,
     })
 }
 
