@@ -1,5 +1,5 @@
 -- At the front of a text the longest token is taken.
-use Rattle.std.proofs.Common.{◌≡◌, ℕ, zero, suc, ◌<◌, ◌≤◌, ◌==◌, nat_le, List, [], ◌∷◌, All, Contains, Option, Some, Bool, true, false, ◌&&◌, ◌||◌, cond, refl, sym, ap, ◌∙◌, arith, length, take, slice_index}
+use Rattle.std.proofs.Common.{◌≡◌, ℕ, zero, suc, ◌<◌, ◌≤◌, ◌==◌, nat_le, List, [], ◌∷◌, All, Contains, Option, Some, None, Bool, true, false, ◌&&◌, ◌||◌, cond, refl, sym, ap, ◌∙◌, arith, length, take, slice_index}
 use Rattle.std.specs.Io.{StartsWith}
 use Rattle.std.specs.List.{list_all}
 use Rattle.std.proofs.lemmas.Bool.{eqb-true, eq-eqb, leb-true, and_from, or_parts}
@@ -14,8 +14,8 @@ use Rattle.form_reader.specs.declared.token.Modality.TheVariants as modalities
 use Rattle.form_reader.specs.declared.token.Token.{Token}
 use Rattle.form_reader.specs.declared.token.Token.TheVariants as token
 use Rattle.form_reader.specs.Words.{begins_word, goes_on, word_length, longest_word, begins_with_word, is_word}
-use Rattle.form_reader.specs.Spelling.{sign_at, dialect_sign, path_sign, of_one_byte}
-use Rattle.form_reader.specs.Signs.{common_signs, path_signs, signs, IsLongestSign, IsLongestTaken, TakesLongestSigns, IsLongestWord, TakesLongestWords}
+use Rattle.form_reader.specs.Spelling.{piece_at, sign_at, sign_piece, dialect_sign, path_sign, of_one_byte}
+use Rattle.form_reader.specs.Signs.{common_signs, path_signs, signs, IsLongestSign, IsLongestWord, IsLongestSignOrBad, IsLongestPiece, TakesLongestTokens}
 use Rattle.form_reader.proofs.Propositional.{and-left, and-right}
 use Rattle.form_reader.proofs.Pieces.{is_word-front, word_length-le}
 
@@ -182,6 +182,11 @@ longest-iff d bs h =
     let two = and-left (slice_index bs 0 == 60 && slice_index bs 1 == 45) _ h in
     longest-three d bs (token.Infix binary.Iff) 60 45 62 (and-left _ _ two) (and-right _ _ two) (and-right (slice_index bs 0 == 60 && slice_index bs 1 == 45) _ h) (omega arith) (listed-both d _ _ (9, omega arith, refl))
 
+-- what was taken is the longest sign at the front; where nothing was, no sign is at the front
+abbrev IsLongestTaken : Dialect → List ℕ → Option (Token × ℕ) → Type 0
+IsLongestTaken d bs None = All (λ sign. ¬ StartsWith bs sign.0) (signs d)
+IsLongestTaken d bs (Some taken) = IsLongestSign d bs taken.0 taken.1
+
 -- what is taken is the longest sign at the front
 record Takes (d : Dialect) (bs : List ℕ) (taken : Option (Token × ℕ)) : Type 0 where
   longest : IsLongestTaken d bs taken
@@ -254,9 +259,10 @@ sign_at-Takes d bs =
     Takes-if d bs (slice_index bs 0 == 60 && slice_index bs 1 == 45 && slice_index bs 2 == 62) _ _ (longest-iff d bs) (λ n60.
     dialect_sign-Takes d bs (record { open_bracket = n40; close_bracket = n41; not = n33; and = n38; or = n124; implies = n45; iff = n60 }))))))))
 
--- of the signs at the front of a text the longest is taken
-pub sign_at-longest : TakesLongestSigns
-sign_at-longest d bs = (sign_at-Takes d bs).longest
+-- the piece made of what was taken is the longest sign, or a bad byte where there is none
+sign_piece-longest : (d : Dialect) (bs : List ℕ) (taken : Option (Token × ℕ)) → IsLongestTaken d bs taken → IsLongestSignOrBad d bs (sign_piece taken).lexeme (sign_piece taken).size
+sign_piece-longest d bs None h = (refl, h)
+sign_piece-longest d bs (Some taken) h = h
 
 -- bytes at the front that all go on a word are no more than those that do
 word_length-most : (bs : List ℕ) (m : ℕ) → m ≤ length bs → list_all goes_on (take m bs) ≡ true → m ≤ word_length bs
@@ -286,6 +292,10 @@ word-IsLongestWord (b ∷ bs) begins = record {
   longest = word-most (b ∷ bs);
 }
 
--- of the words at the front of a text the longest is taken
-pub piece_at-longest : TakesLongestWords
-piece_at-longest d bs begins = rw begins (word-IsLongestWord bs begins)
+-- at each place the longest token is taken
+pub piece_at-longest : TakesLongestTokens
+piece_at-longest d bs = go (begins_word (slice_index bs 0)) refl
+  where
+    go : (a : Bool) → begins_word (slice_index bs 0) ≡ a → IsLongestPiece (begins_word (slice_index bs 0)) d bs (piece_at d bs)
+    go true e = rw e (word-IsLongestWord bs e, refl)
+    go false e = rw e (sign_piece-longest d bs (sign_at d bs) (sign_at-Takes d bs).longest)

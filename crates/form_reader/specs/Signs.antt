@@ -1,5 +1,5 @@
 -- The signs of each dialect, and the longest token at the front of a text.
-use Rattle.std.specs.Prelude.{◌≡◌, ℕ, ◌≤◌, List, [], ◌∷◌, ◌++◌, All, Contains, Option, Some, None, true, length, take, codes, slice_index}
+use Rattle.std.specs.Prelude.{◌≡◌, ℕ, ◌≤◌, List, [], ◌∷◌, ◌++◌, All, Contains, Bool, true, false, length, take, codes, slice_index}
 use Rattle.std.specs.Io.{StartsWith}
 use Rattle.form_reader.specs.declared.dialect.Dialect.{Dialect}
 use Rattle.form_reader.specs.declared.dialect.Dialect.TheVariants as dialects
@@ -10,7 +10,7 @@ use Rattle.form_reader.specs.declared.token.Modality.TheVariants as modalities
 use Rattle.form_reader.specs.declared.token.Token.{Token}
 use Rattle.form_reader.specs.declared.token.Token.TheVariants as token
 use Rattle.form_reader.specs.Words.{begins_word, is_word}
-use Rattle.form_reader.specs.Spelling.{piece_at, sign_at}
+use Rattle.form_reader.specs.Spelling.{Lexeme, Sign, Word, Bad, Piece, piece_at, word_lexeme}
 
 -- the signs that both dialects have, each with its token
 abbrev pub common_signs : List (List ℕ × Token)
@@ -53,21 +53,23 @@ pub record IsLongestSign (d : Dialect) (bs : List ℕ) (t : Token) (n : ℕ) : T
   pub within : n ≤ length bs
   pub longest : All (λ sign. StartsWith bs sign.0 → length sign.0 ≤ n) (signs d)
 
--- what was taken is the longest sign at the front; where nothing was, no sign is at the front
-abbrev pub IsLongestTaken : Dialect → List ℕ → Option (Token × ℕ) → Type 0
-IsLongestTaken d bs None = All (λ sign. ¬ StartsWith bs sign.0) (signs d)
-IsLongestTaken d bs (Some taken) = IsLongestSign d bs taken.0 taken.1
-
--- of the signs at the front of a text the longest is taken
-abbrev pub TakesLongestSigns : Type 0
-TakesLongestSigns = (d : Dialect) (bs : List ℕ) → IsLongestTaken d bs (sign_at d bs)
-
 -- the first n bytes are a word of at most 64 bytes, and no such word at the front has more bytes
 pub record IsLongestWord (bs : List ℕ) (n : ℕ) : Type 0 where
   pub word : is_word (take n bs) ≡ true
   pub within : n ≤ length bs
   pub longest : (m : ℕ) → m ≤ length bs → is_word (take m bs) ≡ true → m ≤ n
 
--- of the words at the front of a text the longest is taken
-abbrev pub TakesLongestWords : Type 0
-TakesLongestWords = (d : Dialect) (bs : List ℕ) → begins_word (slice_index bs 0) ≡ true → IsLongestWord bs (piece_at d bs).size
+-- the longest sign at the front with its token, or one byte where no sign is at the front
+abbrev pub IsLongestSignOrBad : Dialect → List ℕ → Lexeme → ℕ → Type 0
+IsLongestSignOrBad d bs (Sign t) n = IsLongestSign d bs t n
+IsLongestSignOrBad d bs (Word w) n = ⊥
+IsLongestSignOrBad d bs Bad n = (n ≡ 1) × All (λ sign. ¬ StartsWith bs sign.0) (signs d)
+
+-- the longest word at the front and what it is, where a word begins there, else the longest sign or a bad byte
+abbrev pub IsLongestPiece : Bool → Dialect → List ℕ → Piece → Type 0
+IsLongestPiece true d bs piece = IsLongestWord bs piece.size × (piece.lexeme ≡ word_lexeme d (take piece.size bs))
+IsLongestPiece false d bs piece = IsLongestSignOrBad d bs piece.lexeme piece.size
+
+-- at each place the longest token is taken
+abbrev pub TakesLongestTokens : Type 0
+TakesLongestTokens = (d : Dialect) (bs : List ℕ) → IsLongestPiece (begins_word (slice_index bs 0)) d bs (piece_at d bs)

@@ -1,7 +1,7 @@
 ghost use Rattle.std.specs.Prelude.{◌≡◌, ◌<◌, ◌≤◌, IfSome, length, take, true, false, slice_index};
 ghost use Rattle.form_reader.specs.Words as words;
 ghost use Rattle.form_reader.specs.Spelling as spelling;
-ghost use Rattle.form_reader.specs.Signs.{TakesLongestSigns, TakesLongestWords};
+ghost use Rattle.form_reader.specs.Signs.{TakesLongestTokens};
 ghost use Rattle.form_reader.specs.Found.{lexeme_of, IsPieceAt, IsNamed, IsWithin, lexemes_from, IsFirst};
 
 use crate::dialect::Dialect;
@@ -282,8 +282,7 @@ pub fn next(dialect: Dialect, text: &[u8], from: usize, in_word: bool) -> Option
     next_apart(dialect, text, from)
 }
 
-/// At each place the longest token is taken: the longest sign of the dialect, or the longest word.
+/// At each place the longest token is taken: the longest sign of the dialect, or the longest word. It does nothing when it runs.
 pub fn laws_of_tokens()
-    ensures signs { TakesLongestSigns }
-    ensures words { TakesLongestWords }
+    ensures { TakesLongestTokens }
 {}
