@@ -6,7 +6,7 @@ use Rattle.form_reader.specs.declared.name_fault.NameFault.{NameFault}
 use Rattle.form_reader.specs.declared.name_fault.NameFault.TheVariants as faults
 use Rattle.form_reader.specs.Words.{is_name}
 
--- a table of names, the one with number 0 first; a closed table takes no names of formulas
+-- a table of names, the one with number 0 first; where it is closed, a formula that is read may have no new name
 pub record Table : Type 0 where
   pub names : List (List ℕ)
   pub closed : Bool

@@ -1,11 +1,11 @@
--- How many items wait after each token, and how many may.
+-- The kinds of items that wait, which of them operators and closing brackets leave, and how many may wait.
 use Rattle.std.specs.Prelude.{ℕ, List, [], ◌∷◌, Option, Some, None, if◌then◌else◌, nat_lt}
 use Rattle.form_reader.specs.declared.token.Infix.{Infix}
 use Rattle.form_reader.specs.declared.token.PathInfix.{PathInfix}
 use Rattle.form_reader.specs.declared.token.Modality.{Modality}
 use Rattle.form_reader.specs.Grammar.{level, path_level}
 
--- an item that waits
+-- the kind of an item that waits
 pub data Kind : Type 0 where
   -- `(` of a formula, `(` of a path, `{`
   Bracket PathBracket Brace : Kind
@@ -16,18 +16,18 @@ pub data Kind : Type 0 where
   Binary : (o : Infix) → Kind
   PathBinary : (o : PathInfix) → Kind
 
--- back to the nearest open bracket, a binary operator removes the prefix operators and all that binds more tightly
+-- the items that a binary operator leaves: back to the nearest open bracket it removes the prefix operators and the binary ones that bind more tightly
 abbrev pub loosened : Infix → List Kind → List Kind
 loosened o (Unary ∷ ks) = loosened o ks
 loosened o (Binary q ∷ ks) = if nat_lt (level o) (level q) then loosened o ks else Binary q ∷ loosened o ks
 loosened o ks = ks
 
--- the same of an operator between paths
+-- the items that an operator between paths leaves
 abbrev pub path_loosened : PathInfix → List Kind → List Kind
 path_loosened o (PathBinary q ∷ ks) = if nat_lt (path_level o) (path_level q) then path_loosened o ks else PathBinary q ∷ path_loosened o ks
 path_loosened o ks = ks
 
--- a closing bracket removes all items back to its opening bracket, and that bracket too
+-- the items that a closing bracket leaves: it removes all back to its opening bracket, and that bracket too
 abbrev pub after_close : List Kind → List Kind
 after_close [] = []
 after_close (Unary ∷ ks) = after_close ks

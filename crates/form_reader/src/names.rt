@@ -12,7 +12,7 @@ use std::marker::Model;
 
 const MOST_NAMES: usize = 32;
 
-/// The names of propositions. A name's number is its place in the order in which they came, counted from 0.
+/// A table of at most 32 names of propositions, all different. A name's number is its place, counted from 0.
 #[derive(Drop)]
 pub struct Names {
     list: IndexSet<Vec<u8>>,
@@ -32,7 +32,7 @@ impl Model for Names {
 }
 
 impl Names {
-    /// A table of no names that takes new ones.
+    /// An empty table that isn't closed.
     pub fn new(alloc: Global) -> Result<Names, Memory>
         ensures names { IfOk result (λ made. made.names ≡ []) }
         ensures closed { IfOk result (λ made. made.closed ≡ false) }
@@ -70,7 +70,7 @@ impl Names {
         }
     }
 
-    /// Makes the table refuse new names of formulas.
+    /// Closes the table: a formula that is read may have no new name. `add` still takes new names.
     pub fn close(&mut self)
         ensures names { self.new.names ≡ self.old.names }
         ensures closed { self.new.closed ≡ true }
@@ -78,14 +78,14 @@ impl Names {
         self.closed = true;
     }
 
-    /// Whether new names of formulas are refused.
+    /// Whether the table is closed.
     pub fn is_closed(&self) -> bool
         ensures { result ≡ self.now.closed }
     {
         self.closed
     }
 
-    /// The number of a name.
+    /// The number of a name, if it is in the table.
     pub fn find(&self, name: &[u8]) -> Option<u32>
         ensures { result ≡ position (bytes_eq name.now) self.now.names }
     {
@@ -110,7 +110,7 @@ impl Names {
         self.list.len() as u32
     }
 
-    /// The name with a number.
+    /// The name with this number.
     pub fn name(&self, i: u32) -> &[u8]
         requires { i < length self.now.names }
         ensures { result.now ≡ slice_index_or self.now.names i [] }
