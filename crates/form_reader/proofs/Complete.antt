@@ -116,17 +116,17 @@ PathFollows-suc n (token.Star ∷ ts) h = omega arith
 PathFollows-suc n (token.Question ∷ ts) h = h
 PathFollows-suc n _ h = tt
 
--- where a formula fits, one of the next level fits
-pub Fits-suc : (n : ℕ) (ws : List Item) → Fits n ws → Fits (suc n) ws
-Fits-suc n (Before p ∷ ws) e = omega arith
-Fits-suc n (Behind m p ∷ ws) e = omega arith
-Fits-suc n (Between q g ∷ ws) e = omega arith
-Fits-suc n _ e = tt
+-- where a formula fits, one that binds more tightly fits
+pub Fits-more : (n m : ℕ) (ws : List Item) → n ≤ m → Fits n ws → Fits m ws
+Fits-more n m (Before p ∷ ws) e h = omega arith
+Fits-more n m (Behind k p ∷ ws) e h = omega arith
+Fits-more n m (Between q g ∷ ws) e h = omega arith
+Fits-more n m _ e h = tt
 
 -- the same of a path
-pub PathFits-suc : (n : ℕ) (ws : List Item) → PathFits n ws → PathFits (suc n) ws
-PathFits-suc n (PathBetween q g ∷ ws) e = omega arith
-PathFits-suc n _ e = tt
+pub PathFits-more : (n m : ℕ) (ws : List Item) → n ≤ m → PathFits n ws → PathFits m ws
+PathFits-more n m (PathBetween q g ∷ ws) e h = omega arith
+PathFits-more n m _ e h = tt
 
 run-CloseModality : (m : Modality) (ws : List Item) (p : Program) (ts : List Token) → run (Based (Angle m ∷ ws) p) (token.CloseModality m ∷ ts) ≡ run (Due (Behind m p ∷ ws)) ts
 run-CloseModality modalities.Diamond ws p ts = refl
@@ -141,9 +141,9 @@ mutual
   run-Reads ws (modal_of m {ts} {us} {rest} {p} {f} q r) h e =
       run-Leads (Angle m ∷ ws) q tt tt ∙ run-CloseModality m ws p us ∙ run-Reads (Behind m p ∷ ws) r h (omega arith) ∙ run-Behind m p ws f rest
   run-Reads ws (brackets r) h e = run-Reads (Bracket ∷ ws) r tt tt
-  run-Reads ws (alone n {ts} {rest} {f} r) h e = run-Reads ws r (Follows-suc n rest h) (Fits-suc n ws e)
+  run-Reads ws (alone n {ts} {rest} {f} r) h e = run-Reads ws r (Follows-suc n rest h) (Fits-more n (suc n) ws (omega arith) e)
   run-Reads ws (infix_of o {ts} {us} {rest} {f} {g} r s) h e =
-      run-Reads ws r (omega arith) (Fits-suc (level o) ws e)
+      run-Reads ws r (omega arith) (Fits-more (level o) (suc (level o)) ws (omega arith) e)
       ∙ ap (λ vs. run (Due vs) us) (extended-Fits o ws f e)
       ∙ run-Reads (Between o f ∷ ws) s h (omega arith)
       ∙ run-Between o ws f g rest h
@@ -153,10 +153,10 @@ mutual
   run-Leads ws (step_of {ts} {rest} {f} k e) h d = run-ReadsGuard ws k ∙ run-GuardRead ws f base rest (is_propositional-true f e) h
   run-Leads ws (test_of k) h d = run-ReadsGuard ws k
   run-Leads ws (path_brackets q) h d = run-Leads (PathBracket ∷ ws) q tt tt
-  run-Leads ws (star_of {ts} {rest} {p} q) h d = run-Leads ws q (omega arith) (PathFits-suc star ws d) ∙ run-Starred ws (formula.Star p) rest h
-  run-Leads ws (path_alone n {ts} {rest} {p} q) h d = run-Leads ws q (PathFollows-suc n rest h) (PathFits-suc n ws d)
+  run-Leads ws (star_of {ts} {rest} {p} q) h d = run-Leads ws q (omega arith) (PathFits-more star (suc star) ws (omega arith) d) ∙ run-Starred ws (formula.Star p) rest h
+  run-Leads ws (path_alone n {ts} {rest} {p} q) h d = run-Leads ws q (PathFollows-suc n rest h) (PathFits-more n (suc n) ws (omega arith) d)
   run-Leads ws (path_infix_of o {ts} {us} {rest} {p} {q} r s) h d =
-      run-Leads ws r (omega arith) (PathFits-suc (path_level o) ws d)
+      run-Leads ws r (omega arith) (PathFits-more (path_level o) (suc (path_level o)) ws (omega arith) d)
       ∙ ap (λ vs. run (PathDue vs) us) (path_extended-PathFits o ws p d)
       ∙ run-Leads (PathBetween o p ∷ ws) s h (omega arith)
       ∙ run-PathBetween o ws p q rest h

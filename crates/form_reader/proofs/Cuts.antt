@@ -1,7 +1,7 @@
 -- How a text is cut, piece by piece, where each piece is known.
 use Rattle.std.proofs.Common.{◌≡◌, ℕ, zero, suc, ◌+◌, ◌-◌, ◌≤◌, List, [], ◌∷◌, ◌++◌, Some, refl, sym, ap, ◌∙◌, arith, Bool, true, false, ◌&&◌, cond, eqb, length, take, subst, inl, inr, ◌⊎◌, ◌≢◌, add-zero}
 use Rattle.std.proofs.Math.Seq.{take-append_seam}
-use Rattle.std.proofs.lemmas.Bool.{leb-true, or_parts}
+use Rattle.std.proofs.lemmas.Bool.{leb-true, and_parts, or_parts}
 use Rattle.std.proofs.lemmas.Bool.Decides.{eqb_tells}
 use Rattle.std.specs.List.{list_all}
 use Rattle.form_reader.specs.declared.dialect.Dialect.{Dialect}
@@ -11,7 +11,6 @@ use Rattle.form_reader.specs.Spelling.{Lexeme, Sign, Word, Bad, Piece, piece_at,
 use Rattle.form_reader.specs.Names.{is_listed}
 use Rattle.form_reader.specs.Faults.{token_of}
 use Rattle.form_reader.specs.Reading.{tokens}
-use Rattle.form_reader.proofs.Propositional.{and-left, and-right}
 
 -- no byte that goes on a word stands at the front
 abbrev pub IsApart : List ℕ → Type 0
@@ -109,8 +108,8 @@ word_length-apart (suc m) [] [] every room h = refl
 word_length-apart (suc m) [] (b ∷ bs) every room h = rw h refl
 word_length-apart zero (b ∷ v) rest every room h = absurd (omega arith)
 word_length-apart (suc m) (b ∷ v) rest every room h =
-    let on : goes_on b ≡ true = and-left _ _ every in
-    rw on (ap suc (word_length-apart m v rest (and-right (goes_on b) _ every) (omega arith) h))
+    let on : goes_on b ≡ true = (and_parts _ _ every).0 in
+    rw on (ap suc (word_length-apart m v rest (and_parts (goes_on b) _ every).1 (omega arith) h))
 
 same_piece : (x y : Lexeme) (m n : ℕ) → x ≡ y → m ≡ n → ◌≡◌ {A = Piece} (record { lexeme = x; size = m }) (record { lexeme = y; size = n })
 same_piece x y m n e d = rw (e, d) refl
@@ -120,10 +119,10 @@ word_piece a d bs w n m begins e front = rw (begins, e, front) refl
 
 piece_at-word : (d : Dialect) (b : ℕ) (v rest : List ℕ) → is_word (b ∷ v) ≡ true → IsApart rest → piece_at d (b ∷ (v ++ rest)) ≡ record { lexeme = word_lexeme d (b ∷ v); size = suc (length v) }
 piece_at-word d b v rest word h =
-    let both = and-left _ _ word in
-    let begins : begins_word b ≡ true = and-left _ _ both in
-    let every : list_all goes_on (b ∷ v) ≡ true = and-right (begins_word b) _ both in
-    let short : length (b ∷ v) ≤ longest_word = leb-true _ _ (and-right (begins_word b && list_all goes_on (b ∷ v)) _ word) in
+    let both = (and_parts _ _ word).0 in
+    let begins : begins_word b ≡ true = (and_parts _ _ both).0 in
+    let every : list_all goes_on (b ∷ v) ≡ true = (and_parts (begins_word b) _ both).1 in
+    let short : length (b ∷ v) ≤ longest_word = leb-true _ _ (and_parts (begins_word b && list_all goes_on (b ∷ v)) _ word).1 in
     let size : word_length (take longest_word (b ∷ (v ++ rest))) ≡ suc (length v) = word_length-apart longest_word (b ∷ v) rest every short h in
     word_piece (begins_word b) d (b ∷ (v ++ rest)) (b ∷ v) _ (suc (length v)) begins size (take-append_seam (b ∷ v) rest)
 
@@ -131,6 +130,6 @@ piece_at-word d b v rest word h =
 pub Gives-word : {d : Dialect} {ns : List (List ℕ)} {rest : List ℕ} {ts : List Token} (v : List ℕ) (x : Lexeme) (t : Token) → is_word v ≡ true → word_lexeme d v ≡ x → IsKnown ns x → token_of ns x ≡ t → IsApart rest → Gives d ns rest ts → Gives d ns (v ++ rest) (t ∷ ts)
 Gives-word [] x t word lexeme known is h g = cc
 Gives-word {d} {ns} {rest} {ts} (b ∷ v) x t word lexeme known is h g =
-    let blank : is_blank b ≡ false = begins_word-blank b (and-left _ _ (and-left _ _ word)) in
+    let blank : is_blank b ≡ false = begins_word-blank b (and_parts _ _ (and_parts _ _ word).0).0 in
     let piece = piece_at-word d b v rest word h ∙ same_piece _ _ (suc (length v)) _ lexeme refl in
     Gives-lexeme (b ∷ (v ++ rest)) x t (suc (length v)) (λ at. pieces-front d b v rest x at blank piece ∙ ap (λ ls. (at, x) ∷ ls) (pieces-apart d (begins_word b) rest (at + suc (length v)) h)) known is g

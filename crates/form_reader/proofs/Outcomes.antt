@@ -2,6 +2,7 @@
 use Rattle.std.proofs.Common.{◌≡◌, ℕ, suc, ◌+◌, List, [], ◌∷◌, Option, Some, None, Result, Ok, Err, refl, sym, ap, ◌∙◌, Bool, true, false, cond, not, ◌&&◌, nat_lt, nat_le, leb, length, inl, inr, ◌⊎◌, ◌≤◌, ◌<◌, arith, ◌↔◌}
 use Rattle.std.proofs.lemmas.Bool.Decides.{leb_tells}
 use Rattle.std.proofs.lemmas.Bool.{le-leb, lt-leb}
+use Rattle.std.proofs.lemmas.Option.{IfSome_then}
 use Rattle.std.specs.Option.{IfSome, is_some, option_and_then}
 use Rattle.std.specs.Result.{result_ok}
 use Rattle.forms.specs.Tree.{Formula}
@@ -44,10 +45,6 @@ ended-fault : (o : Option Formula) (b : Bool) → is_some o ≡ b → fault_of (
 ended-fault None b h = rw (← h)
 ended-fault (Some f) b h = rw (← h)
 
-IfSome-map : {A : Type 0} (P Q : A → Type 0) (o : Option A) → ((x : A) → P x → Q x) → IfSome o P → IfSome o Q
-IfSome-map P Q None f h = tt
-IfSome-map P Q (Some x) f h = f x h
-
 IfSome-both : {A : Type 0} (P Q R : A → Type 0) (o : Option A) → ((x : A) → P x → Q x → R x) → IfSome o P → IfSome o Q → IfSome o R
 IfSome-both P Q R None f h k = tt
 IfSome-both P Q R (Some x) f h k = f x h k
@@ -60,7 +57,7 @@ outcome-first_fault closed g (l ∷ ls) h =
     let s = scan_of g.state in
     turned closed g l (λ next. outcome closed next ls) (is_bad l.1) (nat_le most_tokens g.count) (admits s t) (nat_lt most_waiting (length (waits_after s t))) (step g.state t) _
     (step-admits g.state t h)
-    (IfSome-map (λ next. length (waits next) ≡ length (waits_after s t)) _ (step g.state t) (λ next e. ap (λ n. nat_lt most_waiting n) e) (step-waits g.state t h))
+    (IfSome_then (step g.state t) {P = λ next. length (waits next) ≡ length (waits_after s t)} (step-waits g.state t h) (λ next e. ap (λ n. nat_lt most_waiting n) e))
     (IfSome-both Shaped (λ next. scan_of next ≡ after s t) _ (step g.state t)
     (λ next k e. outcome-first_fault closed (stage_of (names_with g.names l.1) (g.count + 1) next) ls k ∙ ap (λ r. first_fault closed (names_with g.names l.1) (g.count + 1) r ls) e)
     (step-Shaped g.state t h) (step-scan g.state t h))

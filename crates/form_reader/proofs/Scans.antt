@@ -16,9 +16,9 @@ use Rattle.form_reader.specs.Grammar.{prefixed, behind, joined, path_joined, lev
 use Rattle.form_reader.specs.Waiting as kind
 use Rattle.form_reader.specs.Waiting.{Kind, loosened, path_loosened, after_close, innermost}
 use Rattle.form_reader.specs.Admitted as row
-use Rattle.form_reader.specs.Admitted.{Row, Scan, lists, is_closing, fits, admits, after, guard_row, closed_row, may_end, is_plain_leaf, is_plain_infix}
+use Rattle.form_reader.specs.Admitted.{Row, Scan, lists, is_closing, fits, admits, after, guard_row, closed_row, may_end}
 use Rattle.form_reader.specs.Machine.{Item, Bracket, PathBracket, Brace, Angle, Before, Behind, Between, PathBetween, State, Due, After, PathDue, GuardRead, Based, Starred, extended, path_extended, closed, path_closed, finished, step_starred, step_based, step_guard, step, finish, waits, is_propositional}
-use Rattle.form_reader.proofs.Complete.{Fits, PathFits, level-below}
+use Rattle.form_reader.proofs.Complete.{Fits, PathFits, Fits-more, PathFits-more, level-below}
 use Rattle.form_reader.proofs.Plain.{plain, plain_of, plain-prefixed, plain-behind, plain-joined, plain-extended, leaf-plain}
 use Rattle.form_reader.proofs.Shapes.{IsShaped, Shaped}
 
@@ -67,16 +67,6 @@ same_scan r ks ls b c e d = rw (e, d)
 
 same_scan_at : (ks : List Kind) (r q : Row) (b c : Bool) → r ≡ q → b ≡ c → scan r ks b ≡ scan q ks c
 same_scan_at ks r q b c e d = rw (e, d)
-
-Fits-more : (n m : _) (ws : List Item) → n ≤ m → Fits n ws → Fits m ws
-Fits-more n m (Before p ∷ ws) e h = omega arith
-Fits-more n m (Behind k p ∷ ws) e h = omega arith
-Fits-more n m (Between q g ∷ ws) e h = omega arith
-Fits-more n m _ e h = tt
-
-PathFits-more : (n m : _) (ws : List Item) → n ≤ m → PathFits n ws → PathFits m ws
-PathFits-more n m (PathBetween q g ∷ ws) e h = omega arith
-PathFits-more n m _ e h = tt
 
 -- where a left operand fits, the operator removes nothing
 loosened-Fits : (o : Infix) (ws : List Item) → IsShaped false ws → Fits (level o) ws → loosened o (kinds ws) ≡ kinds ws

@@ -2,7 +2,7 @@
 use Rattle.std.proofs.Common.{◌≡◌, ℕ, zero, suc, ◌<◌, ◌≤◌, ◌==◌, nat_le, List, [], ◌∷◌, All, Contains, Option, Some, None, Bool, true, false, ◌&&◌, ◌||◌, cond, refl, sym, ap, ◌∙◌, arith, length, take, slice_index}
 use Rattle.std.specs.Io.{StartsWith}
 use Rattle.std.specs.List.{list_all}
-use Rattle.std.proofs.lemmas.Bool.{eqb-true, eq-eqb, leb-true, and_from, or_parts}
+use Rattle.std.proofs.lemmas.Bool.{eqb-true, eq-eqb, leb-true, and_from, and_parts, or_parts}
 use Rattle.std.proofs.lemmas.List.{get_or-take, length-take, take-take}
 use Rattle.std.proofs.lemmas.List.Elements.{All-from_recursion, All-append, Contains-append_left}
 use Rattle.form_reader.specs.declared.dialect.Dialect.{Dialect}
@@ -16,7 +16,6 @@ use Rattle.form_reader.specs.declared.token.Token.TheVariants as token
 use Rattle.form_reader.specs.Words.{begins_word, goes_on, word_length, longest_word, begins_with_word, is_word}
 use Rattle.form_reader.specs.Spelling.{piece_at, sign_at, sign_piece, dialect_sign, path_sign, of_one_byte}
 use Rattle.form_reader.specs.Signs.{common_signs, path_signs, signs, IsLongestSign, IsLongestWord, IsLongestSignOrBad, IsLongestPiece, TakesLongestTokens}
-use Rattle.form_reader.proofs.Propositional.{and-left, and-right}
 use Rattle.form_reader.proofs.Pieces.{is_word-front, word_length-le}
 
 -- a byte of what the text starts with
@@ -174,13 +173,13 @@ longest-or d bs h = go (slice_index bs 1 == 124) refl
 
 -- `->`
 longest-implies : (d : Dialect) (bs : List ℕ) → (slice_index bs 0 == 45 && slice_index bs 1 == 62) ≡ true → IsLongestSign d bs (token.Infix binary.Implies) 2
-longest-implies d bs h = longest-two d bs (token.Infix binary.Implies) 45 62 (and-left _ _ h) (and-right _ _ h) (omega arith) (listed-both d _ _ (8, omega arith, refl)) refl
+longest-implies d bs h = longest-two d bs (token.Infix binary.Implies) 45 62 (and_parts _ _ h).0 (and_parts _ _ h).1 (omega arith) (listed-both d _ _ (8, omega arith, refl)) refl
 
 -- `<->`
 longest-iff : (d : Dialect) (bs : List ℕ) → (slice_index bs 0 == 60 && slice_index bs 1 == 45 && slice_index bs 2 == 62) ≡ true → IsLongestSign d bs (token.Infix binary.Iff) 3
 longest-iff d bs h =
-    let two = and-left (slice_index bs 0 == 60 && slice_index bs 1 == 45) _ h in
-    longest-three d bs (token.Infix binary.Iff) 60 45 62 (and-left _ _ two) (and-right _ _ two) (and-right (slice_index bs 0 == 60 && slice_index bs 1 == 45) _ h) (omega arith) (listed-both d _ _ (9, omega arith, refl))
+    let two = (and_parts (slice_index bs 0 == 60 && slice_index bs 1 == 45) _ h).0 in
+    longest-three d bs (token.Infix binary.Iff) 60 45 62 (and_parts _ _ two).0 (and_parts _ _ two).1 (and_parts (slice_index bs 0 == 60 && slice_index bs 1 == 45) _ h).1 (omega arith) (listed-both d _ _ (9, omega arith, refl))
 
 -- what was taken is the longest sign at the front; where nothing was, no sign is at the front
 abbrev IsLongestTaken : Dialect → List ℕ → Option (Token × ℕ) → Type 0
@@ -269,16 +268,16 @@ word_length-most : (bs : List ℕ) (m : ℕ) → m ≤ length bs → list_all go
 word_length-most bs zero h e = omega arith
 word_length-most [] (suc m) h e = absurd (omega arith)
 word_length-most (b ∷ bs) (suc m) h e =
-    let on = and-left (goes_on b) _ e in
-    let more = word_length-most bs m (omega arith) (and-right (goes_on b) _ e) in
+    let on = (and_parts (goes_on b) _ e).0 in
+    let more = word_length-most bs m (omega arith) (and_parts (goes_on b) _ e).1 in
     rw on (omega arith)
 
 -- a word at the front of at most 64 bytes is no longer than the bytes that go on
 word-most : (bs : List ℕ) (m : ℕ) → m ≤ length bs → is_word (take m bs) ≡ true → m ≤ word_length (take longest_word bs)
 word-most bs m within word =
     let start = begins_with_word (take m bs) && list_all goes_on (take m bs) in
-    let few = leb-true (length (take m bs)) longest_word (and-right start (nat_le (length (take m bs)) longest_word) word) in
-    let every = and-right (begins_with_word (take m bs)) (list_all goes_on (take m bs)) (and-left start (nat_le (length (take m bs)) longest_word) word) in
+    let few = leb-true (length (take m bs)) longest_word (and_parts start (nat_le (length (take m bs)) longest_word) word).1 in
+    let every = (and_parts (begins_with_word (take m bs)) (list_all goes_on (take m bs)) (and_parts start (nat_le (length (take m bs)) longest_word) word).0).1 in
     let short : m ≤ longest_word = omega (arith, few, length-take m bs) in
     let same : take m (take longest_word bs) ≡ take m bs = take-take m longest_word bs short in
     word_length-most (take longest_word bs) m (omega (arith, short, length-take longest_word bs)) (rw same every)

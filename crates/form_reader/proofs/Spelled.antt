@@ -1,5 +1,6 @@
 -- The bytes of a printed formula are cut into its tokens.
 use Rattle.std.proofs.Common.{◌≡◌, ℕ, suc, ◌<◌, List, [], ◌∷◌, ◌++◌, Some, refl, ap, Bool, true, false, ◌||◌, ◌==◌, cond, not, length, append_assoc, codes}
+use Rattle.std.proofs.lemmas.Bool.{and_parts}
 use Rattle.forms.specs.Tree.{Formula, Program, True, False, Atom, Not, And, Or, Implies, Iff, Next, WeakNext, Until, Release, Eventually, Always, Diamond, BoxAll, Step, Test, Choice, Seq, Star}
 use Rattle.forms.specs.Proper.{IsProper, IsProperProgram}
 use Rattle.form_reader.specs.declared.dialect.Dialect.{Dialect}
@@ -17,7 +18,6 @@ use Rattle.form_reader.specs.Names.{AreNames}
 use Rattle.form_reader.specs.Printed.{name_of, is_bare, in_braces, is_starred, bracketed, printed, printed_path}
 use Rattle.form_reader.specs.Dialects.{IsOfDialect, IsPathOfDialect}
 use Rattle.form_reader.specs.ReadBack.{AreNumberedIn}
-use Rattle.form_reader.proofs.Propositional.{and-left, and-right}
 use Rattle.form_reader.proofs.Cuts.{IsApart, Gives, Gives-same, Gives-blank, Gives-sign, Gives-word, begins_word-other}
 use Rattle.form_reader.proofs.Numbered.{is_name-at}
 use Rattle.form_reader.proofs.Written.{written, written_path}
@@ -109,7 +109,7 @@ release-lexeme dialects.Ldlf e = cc
 
 name-lexeme : (d : Dialect) (w : List ℕ) → is_name w ≡ true → word_lexeme d w ≡ Word w
 unfolding word_lexeme
-name-lexeme d w h = go (is_constant w) (is_operator w) (is_unused w) (and-right (is_word w) _ h)
+name-lexeme d w h = go (is_constant w) (is_operator w) (is_unused w) (and_parts (is_word w) _ h).1
   where
     go : (a b c : Bool) → not (a || b || c) ≡ true → cond a (Sign (constant d w)) (cond b (Sign (in_ltlf d (operator w))) (cond c (Sign token.Reserved) (Word w))) ≡ Word w
     go true b c k = cc
@@ -122,7 +122,7 @@ Prints-name : (d : Dialect) (ns ms : List (List ℕ)) (i : ℕ) → AreNames ns 
 Prints-name d ns ms i valid numbered within =
     let name : is_name (name_of ns i) ≡ true = is_name-at ns i valid within in
     let at = numbered i within in
-    record { gives = λ rest us apart g. Gives-word (name_of ns i) (Word (name_of ns i)) (token.Leaf (leaf_tokens.Name i)) (and-left _ _ name) (name-lexeme d (name_of ns i) name) at.0 (ap (λ k. token.Leaf (leaf_tokens.Name k)) at.1) apart g }
+    record { gives = λ rest us apart g. Gives-word (name_of ns i) (Word (name_of ns i)) (token.Leaf (leaf_tokens.Name i)) (and_parts _ _ name).0 (name-lexeme d (name_of ns i) name) at.0 (ap (λ k. token.Leaf (leaf_tokens.Name k)) at.1) apart g }
 
 Marks-open : (d : Dialect) (ms : List (List ℕ)) → Marks d ms (codes "(") (λ us. token.Open ∷ us)
 Marks-open d ms = Marks-byte d ms 40 token.Open refl refl (λ rest. refl)
@@ -158,7 +158,7 @@ BeginsNoArrow-append (b ∷ xs) ys h = h
 
 BeginsNoArrow-name : (w : List ℕ) → is_name w ≡ true → BeginsNoArrow w
 BeginsNoArrow-name [] h = cc
-BeginsNoArrow-name (b ∷ w) h = begins_word-other b 45 (and-left _ _ (and-left _ _ (and-left _ _ h))) refl
+BeginsNoArrow-name (b ∷ w) h = begins_word-other b 45 (and_parts _ _ (and_parts _ _ (and_parts _ _ h).0).0).0 refl
 
 BeginsNoArrow-held : (ns : List (List ℕ)) (f : Formula) → AreNames ns → IsProper (length ns) f → BeginsNoArrow (in_braces f (printed ns f))
 BeginsNoArrow-held ns True valid h = refl
