@@ -3,12 +3,13 @@
 #   NAME.sh and NAME.out   what is typed at the top of the clone; its output, its message and a line `status N`
 #   NAME.tsv               a line a formula and a trace, with what judge answers; ` / ` between events, `.` for an empty one
 # Then it looks whether each command that README and GUIDE show after a `$`, with its output, is one of these.
-# It runs the program of the clone, or BES=PROGRAM.
+# It builds and runs the program of the clone, or runs BES=PROGRAM.
 set -u
 program=$(realpath -m "${BES:-$(dirname "$0")/../crates/bes/out/bes}")
 cd "$(dirname "$0")/.." || exit 2
-[ -n "${BES:-}" ] || (cd crates/bes && rt run -- judge ltlf true </dev/null >/dev/null 2>&1)
-if [ ! -x "$program" ]; then
+built=0
+[ -n "${BES:-}" ] || (cd crates/bes && rt run -- forms ltlf true >/dev/null 2>&1) || built=$?
+if [ "$built" -ne 0 ] || [ ! -x "$program" ]; then
   echo "the program was not built: try 'rt run' in crates/bes"
   echo "0 passed, 1 failed"
   exit 1

@@ -3,14 +3,15 @@
 # A run must end with status 8, its message and no output. With one refusal alone it may also do without what was refused,
 # and then end just as it does with none. Where `monitor` ends with status 8 it must have left all its input, since it takes
 # memory before the first event only.
-#   PROGRAM=FILE   runs this program in place of crates/bes/out/bes
+#   PROGRAM=FILE   runs this program in place of crates/bes/out/bes, which is built first
 # (`rt try --fail-alloc N` refuses one allocation too, but builds the program anew for each N.)
 set -u
 cd "$(dirname "$0")/.." || exit 2
 program=${PROGRAM:-crates/bes/out/bes}
-[ -n "${PROGRAM:-}" ] || (cd crates/bes && rt run -- judge ltlf true </dev/null >/dev/null 2>&1)
-if [ ! -x "$program" ]; then
-  echo "there is no program $program: try 'rt run' in crates/bes"
+built=0
+[ -n "${PROGRAM:-}" ] || (cd crates/bes && rt run -- forms ltlf true >/dev/null 2>&1) || built=$?
+if [ "$built" -ne 0 ] || [ ! -x "$program" ]; then
+  echo "there is no program $program, or it was not built: try 'rt run' in crates/bes"
   echo "0 passed, 1 failed"
   exit 1
 fi
