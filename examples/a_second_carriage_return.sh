@@ -1,0 +1,1 @@
+printf 'a\r\na\r\r\n' | bes judge ltlf 'F a'
