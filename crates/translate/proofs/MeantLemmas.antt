@@ -6,18 +6,18 @@ use Rattle.std.proofs.lemmas.List.Elements.{All-append, All-cons, All-nil}
 use Rattle.forms.specs.Word.{Word, Claim, IsOver, is_empty}
 use Rattle.forms.specs.Paths.{reaches}
 use Rattle.forms.specs.Tree.{Formula, Program, tree}
-use Rattle.forms.specs.Proper.{IsProper}
 use Rattle.forms.specs.Satisfaction.{sat, goes, meets}
 use Rattle.forms.specs.Equivalence.{HasClassCount}
 use Rattle.forms.proofs.Further.{not-reaches}
 use Rattle.diagrams.specs.Eval.{Diagrams}
 use Rattle.diagrams.specs.Live.{Keeps}
 use Rattle.automata.specs.declared.meant.Meant.{Meant}
+use Rattle.automata.specs.Moves.{Moves}
 use Rattle.automata.specs.Table.{Table, size_of, moves_of, IsMeant}
-use Rattle.automata.proofs.Everywhere.{IsMeant-everywhere}
 use Rattle.automata.proofs.Lasts.{mark_after-lasts, meant_lasts}
-use Rattle.minimise.specs.Minimal.{IsLeastFor, Decides}
+use Rattle.minimise.specs.Minimal.{IsLeastFor, IsOnlyFor, Decides}
 use Rattle.minimise.proofs.Counts.{size_is_class_count}
+use Rattle.minimise.proofs.Only.{least_is_only}
 use Rattle.translate.specs.declared.operation.Unary.{Unary}
 use Rattle.translate.specs.declared.operation.Binary.{Binary}
 use Rattle.translate.specs.declared.operation.Modal.{Modal}
@@ -112,14 +112,30 @@ least_for s t f p e h =
 
 -- and has as many locations as the claim has classes
 pub class_count : (s : Diagrams) (t : Table) (f : Claim) (p : ℕ) → s.props ≡ p → IsLeastOf s t f → HasClassCount p f (size_of t)
-class_count s t f p e h = subst (λ q. HasClassCount q f (size_of t)) e (size_is_class_count s.props (moves_of s t) f h.least (decides_of s t f h))
+class_count s t f p e h =
+    let l = least_for s t f p e h in
+    size_is_class_count p (moves_of s t) f l.least l.decides
 
--- the automaton of a formula's traces
-pub whole_made : (s : Diagrams) (n : Diagrams) (a t : Table) (f : Formula) (p : ℕ) → s.props ≡ p → IsLeastMeant s a f → IsLeastOf n t (λ w. not (is_empty w) && accepted s a w)
-    → IsLeastOf n t (λ w. meets p f w)
-whole_made s n a t f p e x h =
-    least_as n t _ _
-    (ap (λ c. λ w. not (is_empty w) && c w) (accepted-least s a (said s.props f) x) ∙ ap (λ q. λ w. not (is_empty w) && sat q f w) e) h
+-- the automaton is the least one of a formula's traces, the only one with its numbering, and as large as they have classes
+pub record IsWholeOf (p : ℕ) (m : Moves) (f : Formula) : Type 0 where
+  pub least : IsLeastFor p m (λ w. meets p f w)
+  pub only : IsOnlyFor p m (λ w. meets p f w)
+  pub size : HasClassCount p (λ w. meets p f w) m.size
+
+-- so is the least automaton of the words, but for the empty one, that the formula's least automaton accepts in an earlier store
+pub whole_meant : (o s r : Diagrams) (a t : Table) (f : Formula) → Keeps o s → Keeps s r → IsLeastMeant s a f → IsLeastOf r t (λ w. not (is_empty w) && accepted s a w)
+    → IsWholeOf o.props (moves_of r t) f
+whole_meant o s r a t f k j x h =
+    let p = o.props in
+    let e : r.props ≡ p = j.extends.props ∙ k.extends.props in
+    let traces : (λ w. not (is_empty w) && accepted s a w) ≡ (λ w. meets p f w) =
+    ap (λ c. λ w. not (is_empty w) && c w) (accepted-least s a (said s.props f) x) ∙ ap (λ q. λ w. meets q f w) k.extends.props in
+    let whole = least_as r t (λ w. not (is_empty w) && accepted s a w) (λ w. meets p f w) traces h in
+    let least = least_for r t (λ w. meets p f w) p e whole in record {
+      least = least;
+      only = least_is_only p (moves_of r t) (λ w. meets p f w) least;
+      size = class_count r t (λ w. meets p f w) p e whole;
+    }
 
 -- a least automaton is one of its formula
 pub meant_of : (s : Diagrams) (t : Table) (f : Formula) → IsLeastMeant s t f → IsMeant s t f
@@ -130,16 +146,6 @@ pub meant_by : (s n : Diagrams) → Keeps s n → (t : Table) (g : Claim) (f : F
 meant_by s n k t g f l e = record {
   fits = l.fits;
   same = λ w o. l.same w ∙ e w (subst (λ p. IsOver p w) k.extends.props o) ∙ ap (λ p. sat p f w) (sym k.extends.props);
-}
-
--- a least automaton that stands for a proper formula is the formula's least one, whatever the numbers of a list
-pub least_meant : (s : Diagrams) (t : Table) (g : Claim) (f : Formula) → IsProper s.props f → IsLeastOf s t g → IsMeant s t f → IsLeastMeant s t f
-least_meant s t g f proper l m = record {
-  fits = l.fits;
-  marks = l.marks;
-  same = λ w. IsMeant-everywhere s t f proper m w;
-  least = l.least;
-  numbered = l.numbered;
 }
 
 -- tests stay tests

@@ -1,6 +1,6 @@
 //! The least automaton of a formula.
-ghost use Rattle.std.specs.Prelude.{◌<◌, ◌≤◌, ◌^◌, All, IfOk, IfErr};
-ghost use Rattle.forms.specs.Tree.{tree, nodes};
+ghost use Rattle.std.specs.Prelude.{◌≤◌, All, IfOk, IfErr};
+ghost use Rattle.forms.specs.Tree.{tree};
 ghost use Rattle.forms.specs.Proper.{IsProper};
 ghost use Rattle.forms.specs.Satisfaction.{meets};
 ghost use Rattle.forms.specs.Equivalence.{HasClassCount};
@@ -36,9 +36,6 @@ pub fn translate(
     limit: u32,
 ) -> Result<Translated, TranslateFault>
     requires proper { IsProper store.old.props (tree form.now) }
-    requires small { nodes (tree form.now) < 2 ^ 32 }
-    requires limit { 1 ≤ limit }
-    requires limit_small { limit ≤ 1024 }
     ensures keeps { Keeps store.old store.new }
     ensures counts { IfOk result (λ made. AreCounts store.old.props (tree form.now) made.counts) }
     ensures within { IfOk result (λ made. All (λ count. count ≤ limit) made.counts) }

@@ -1,12 +1,10 @@
-use Rattle.std.proofs.Common.{refl, ◌∙◌}
+use Rattle.std.proofs.Common.{refl}
 use Rattle.std.proofs.lemmas.Result.{err_from_is_err_and}
 use Rattle.forms.specs.Tree.{tree}
 use Rattle.forms.specs.Parts.{parts}
-use Rattle.forms.specs.Satisfaction.{meets}
-use Rattle.automata.specs.Table.{size_of, moves_of}
-use Rattle.minimise.proofs.Only.{least_is_only}
+use Rattle.automata.specs.Table.{size_of}
 use Rattle.translate.proofs.CountLemmas.{counts_of, counts_within, adds_from, first_over_from, whole_over}
-use Rattle.translate.proofs.MeantLemmas.{whole_made, class_count, least_for}
+use Rattle.translate.proofs.MeantLemmas.{whole_meant}
 use Rattle.translate.proofs.translating.translate.Goals as goal
 
 pub returns-in_err-automaton-clause-too_many : goal.returns-in_err-automaton-clause-too_many
@@ -20,16 +18,12 @@ pub returns-in_err-admit-clause-too_many : goal.returns-in_err-admit-clause-too_
 returns-in_err-admit-clause-too_many c =
     let p = c.args.store.now.props in
     let f = tree c.args.form.now in
-    let kp = c.in_ok-automaton.ensures.keeps.extends.props in
-    let kw = c.in_ok-whole.ensures.keeps.extends.props ∙ kp in
-    let s = c.nonempty.new.store in
-    let t = c.in_ok-whole.whole in
-    let least = whole_made c.part.new.store s c.in_ok-automaton.automaton t f p kp c.in_ok-automaton.ensures.least c.in_ok-whole.ensures.least in
+    let whole = whole_meant _ _ _ _ _ f c.in_ok-automaton.ensures.keeps c.in_ok-whole.ensures.keeps c.in_ok-automaton.ensures.least c.in_ok-whole.ensures.least in
     let r = err_from_is_err_and c.from_residual-in_err-admit.result c.from_residual-in_err-admit.ensures.1 in
     rw (r.1, r.2)
-    (whole_over p c.args.limit f c.part.new.counts c.size.result (size_of t) _
+    (whole_over p c.args.limit f c.part.new.counts c.size.result (size_of c.in_ok-whole.whole) _
     (adds_from p c.args.store.now.props c.args.limit (parts f) c.new-counts.result c.part.new.counts refl c.new-counts.ensures c.in_ok-automaton.ensures.counts)
-    (class_count s t (λ w. meets p f w) p kw least) c.size.ensures.size c.in_err-admit.ensures.too_many)
+    whole.size c.size.ensures.size c.in_err-admit.ensures.too_many)
 
 pub returns-clause-counts : goal.returns-clause-counts
 returns-clause-counts c =
@@ -47,33 +41,15 @@ returns-clause-within c =
 
 pub returns-clause-size : goal.returns-clause-size
 returns-clause-size c =
-    let p = c.args.store.now.props in
-    let f = tree c.args.form.now in
-    let kp = c.in_ok-automaton.ensures.keeps.extends.props in
-    let kw = c.in_ok-whole.ensures.keeps.extends.props ∙ kp in
-    let s = c.nonempty.new.store in
-    let t = c.in_ok-whole.whole in
-    let least = whole_made c.part.new.store s c.in_ok-automaton.automaton t f p kp c.in_ok-automaton.ensures.least c.in_ok-whole.ensures.least in
-    class_count s t (λ w. meets p f w) p kw least
+    let whole = whole_meant _ _ _ _ _ (tree c.args.form.now) c.in_ok-automaton.ensures.keeps c.in_ok-whole.ensures.keeps c.in_ok-automaton.ensures.least c.in_ok-whole.ensures.least in
+    whole.size
 
 pub returns-clause-least : goal.returns-clause-least
 returns-clause-least c =
-    let p = c.args.store.now.props in
-    let f = tree c.args.form.now in
-    let kp = c.in_ok-automaton.ensures.keeps.extends.props in
-    let kw = c.in_ok-whole.ensures.keeps.extends.props ∙ kp in
-    let s = c.nonempty.new.store in
-    let t = c.in_ok-whole.whole in
-    let least = whole_made c.part.new.store s c.in_ok-automaton.automaton t f p kp c.in_ok-automaton.ensures.least c.in_ok-whole.ensures.least in
-    least_for s t (λ w. meets p f w) p kw least
+    let whole = whole_meant _ _ _ _ _ (tree c.args.form.now) c.in_ok-automaton.ensures.keeps c.in_ok-whole.ensures.keeps c.in_ok-automaton.ensures.least c.in_ok-whole.ensures.least in
+    whole.least
 
 pub returns-clause-only : goal.returns-clause-only
 returns-clause-only c =
-    let p = c.args.store.now.props in
-    let f = tree c.args.form.now in
-    let kp = c.in_ok-automaton.ensures.keeps.extends.props in
-    let kw = c.in_ok-whole.ensures.keeps.extends.props ∙ kp in
-    let s = c.nonempty.new.store in
-    let t = c.in_ok-whole.whole in
-    let least = whole_made c.part.new.store s c.in_ok-automaton.automaton t f p kp c.in_ok-automaton.ensures.least c.in_ok-whole.ensures.least in
-    least_is_only p (moves_of s t) (λ w. meets p f w) (least_for s t (λ w. meets p f w) p kw least)
+    let whole = whole_meant _ _ _ _ _ (tree c.args.form.now) c.in_ok-automaton.ensures.keeps c.in_ok-whole.ensures.keeps c.in_ok-automaton.ensures.least c.in_ok-whole.ensures.least in
+    whole.only
