@@ -1,6 +1,6 @@
 //! Least automata and class counts over two propositions, worked out by hand.
-ghost use Rattle.std.specs.Prelude.{◌≡◌, ◌<◌, IfOk};
-ghost use Rattle.forms.specs.Tree.{tree, nodes};
+ghost use Rattle.std.specs.Prelude.{◌≡◌, IfOk};
+ghost use Rattle.forms.specs.Tree.{tree};
 ghost use Rattle.forms.specs.Proper.{IsProper};
 ghost use Rattle.diagrams.specs.Live.{Keeps};
 ghost use Rattle.automata.specs.Table.{Fits, IsMeant};
@@ -126,7 +126,6 @@ enum Operator {
 // The operator over a and b.
 fn formula(alloc: Global, operator: Operator) -> Result<Form, Memory>
     ensures proper { IfOk result (λ made. IsProper 2 (tree made)) }
-    ensures small { IfOk result (λ made. nodes (tree made) < 4) }
 {
     let a = Box::new(alloc, Form::Atom(A))?;
     let b = Box::new(alloc, Form::Atom(B))?;
@@ -147,9 +146,7 @@ fn formula(alloc: Global, operator: Operator) -> Result<Form, Memory>
 // `<true> f`: a word is a trace of it where f holds on what follows the first letter, the empty word included.
 fn later(alloc: Global, form: Form) -> Result<Form, Memory>
     requires proper { IsProper 2 (tree form) }
-    requires small { nodes (tree form) < 4 }
     ensures proper { IfOk result (λ made. IsProper 2 (tree made)) }
-    ensures small { IfOk result (λ made. nodes (tree made) < 7) }
 {
     let step = Path::Step(Box::new(alloc, Form::True)?);
     Ok(Form::Diamond(Box::new(alloc, step)?, Box::new(alloc, form)?))
@@ -272,7 +269,7 @@ fn is_wanted(outcome: &Result<Translated, TranslateFault>, wanted: Wanted) -> bo
 }
 
 // A formula, the limit, and what comes of it.
-const COUNTED: [(Dialect, &str, u32, Wanted); 6] = [
+const COUNTED: [(Dialect, &str, u32, Wanted); 7] = [
     (
         Dialect::Ldlf,
         "<a? ; true>a",
@@ -318,6 +315,12 @@ const COUNTED: [(Dialect, &str, u32, Wanted); 6] = [
         1,
         Wanted::TooMany { part: 2, count: 2 },
     ),
+    (
+        Dialect::Ltlf,
+        "true",
+        0,
+        Wanted::TooMany { part: 1, count: 1 },
+    ),
 ];
 
 #[test]
@@ -327,7 +330,7 @@ fn formulas_are_counted_part_by_part(rt: HostRuntime) -> Result<(), Fail> {
         let mut names = Names::new(alloc)?;
         let form = read_form(alloc, dialect, text.as_bytes(), &mut names)?;
         let mut store = Store::new(alloc, names.len())?;
-        let outcome = translate(alloc, &mut store, &form, limit.clamp(1, 1024));
+        let outcome = translate(alloc, &mut store, &form, limit);
         assert!(rt; is_wanted(&outcome, wanted), "{text}");
     }
     Ok(())
