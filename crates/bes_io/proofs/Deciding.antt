@@ -1,5 +1,6 @@
 -- What the held bytes decide, and where their first LF stands.
-use Rattle.std.proofs.Common.{◌≡◌, ℕ, ◌+◌, ◌-◌, ◌<◌, ◌≤◌, ◌∷◌, List, [], ◌++◌, length, take, drop, arith, sym, refl, ◌∙◌, ap, cond, true, false, Bool, Some, None, Ok, not, get_or}
+use Rattle.std.proofs.Common.{◌≡◌, ℕ, ◌+◌, ◌-◌, ◌<◌, ◌≤◌, ◌∷◌, List, [], ◌++◌, length, take, drop, arith, sym, ◌∙◌, ap, cond, true, false, Bool, Some, None, Ok, not, get_or}
+use Rattle.std.proofs.lemmas.Bool.{false_from_ne_true}
 use Rattle.std.proofs.lemmas.Bool.Decides.{nat_tests}
 use Rattle.std.proofs.lemmas.List.{take-append-drop, take_all, length-drop}
 use Rattle.std.proofs.lemmas.List.Sums.{prefix_len-le-length, position_or_len_is}
@@ -38,26 +39,18 @@ text_len-drop (suc n) (x ∷ xs) within none = passed (is_lf x) (text_len xs) (t
 -- the place of the first LF, found past the bytes that hold none
 pub position-past : (n place : ℕ) (bytes : List ℕ) → n ≤ length bytes → n ≤ text_len bytes → IsFirstByte (is_byte 10) (drop n bytes) (Some place) → Some (n + place) ≡ position is_lf bytes
 position-past n place bytes within none first =
-    let at : text_len (drop n bytes) ≡ place = position_or_len_is is_lf (drop n bytes) place 0 (omega (arith, first.0.high)) (λ k below. false-of (is_lf (get_or (drop n bytes) k 0)) (first.0.before k (omega arith) below)) (λ below. first.1) in
+    let at : text_len (drop n bytes) ≡ place = position_or_len_is is_lf (drop n bytes) place 0 (omega (arith, first.0.high)) (λ k below. false_from_ne_true (is_lf (get_or (drop n bytes) k 0)) (first.0.before k (omega arith) below)) (λ below. first.1) in
     let all : text_len bytes ≡ n + place = text_len-drop n bytes within none ∙ ap (λ m. n + m) at in
     let lt : n + place < length bytes = omega (arith, first.0.high, length-drop n bytes) in
     rw all (grind (arith, nat_tests))
-  where
-    false-of : (b : Bool) → (b ≡ true → ⊥) → b ≡ false
-    false-of true h = absurd (h refl)
-    false-of false h = refl
 
 -- no LF at all, where none is past the bytes that hold none
 pub position-nowhere : (n : ℕ) (bytes : List ℕ) → n ≤ length bytes → n ≤ text_len bytes → IsFirstByte (is_byte 10) (drop n bytes) None → None ≡ position is_lf bytes
 position-nowhere n bytes within none first =
-    let at : text_len (drop n bytes) ≡ length (drop n bytes) = position_or_len_is is_lf (drop n bytes) (length (drop n bytes)) 0 (omega arith) (λ k below. false-of (is_lf (get_or (drop n bytes) k 0)) (first k (omega arith) below)) (λ below. absurd (omega arith)) in
+    let at : text_len (drop n bytes) ≡ length (drop n bytes) = position_or_len_is is_lf (drop n bytes) (length (drop n bytes)) 0 (omega arith) (λ k below. false_from_ne_true (is_lf (get_or (drop n bytes) k 0)) (first k (omega arith) below)) (λ below. absurd (omega arith)) in
     let all : text_len bytes ≡ n + length (drop n bytes) = text_len-drop n bytes within none ∙ ap (λ m. n + m) at in
     let end : text_len bytes ≡ length bytes = omega (arith, all, length-drop n bytes) in
     rw end (grind (arith, nat_tests))
-  where
-    false-of : (b : Bool) → (b ≡ true → ⊥) → b ≡ false
-    false-of true h = absurd (h refl)
-    false-of false h = refl
 
 -- bytes that go on after others without an LF have none among those either
 pub text_len-more : (old new : List ℕ) → StartsWith new old → length old ≤ text_len old → length old ≤ text_len new

@@ -1,8 +1,7 @@
 -- Facts from outside that hold the definitions: the lines are those of Rust's `str::lines`, and when a count rose.
 use Rattle.std.proofs.Common.{◌≡◌, ℕ, ◌+◌, ◌<◌, ◌≤◌, ◌-◌, ◌∷◌, List, [], length, arith, sym, refl, ◌∙◌, ap, cond, nat_lt, nat_eq, true, false, Bool}
-use Rattle.std.proofs.lemmas.Grind.{common_steps}
 use Rattle.std.proofs.lemmas.Bool.Decides.{nat_tests}
-use Rattle.std.proofs.lemmas.List.{drop_all}
+use Rattle.std.proofs.lemmas.List.{drop_all, nil_from_length}
 use Rattle.std.proofs.lemmas.List.Sums.{fails_before_first}
 use Rattle.std.proofs.lemmas.List.Splits.{slice_split_first, slice_split_none, length-slice_split}
 use Rattle.std.specs.List.{before_first, after_first, slice_split}
@@ -40,13 +39,9 @@ lines-step bytes some = by (nat_lt (text_len bytes) (length bytes)) refl
         let none : length bytes ≤ text_len bytes = grind (arith, nat_tests) in
         lines-last bytes none some ∙ ap (λ xs. bytes ∷ lines xs) (sym (drop_all (text_len bytes + 1) bytes (omega arith)))
 
--- no bytes are the empty list
-empty : (bytes : List ℕ) → length bytes ≡ 0 → bytes ≡ []
-empty bytes e = grind (arith, common_steps)
-
 -- where lines end at the end of the bytes, they are those that `str::lines` gives
 pub HasLines-lines : (most : ℕ) (bytes : List ℕ) (found : List (List ℕ)) (stop : Stop) → HasLines most bytes found stop → stop ≡ at_end → found ≡ lines bytes
-HasLines-lines most bytes found stop (ended e) end = let nil : bytes ≡ [] = empty bytes (end-empty most bytes (sym e)) in sym (ap lines nil)
+HasLines-lines most bytes found stop (ended e) end = let nil : bytes ≡ [] = nil_from_length bytes (end-empty most bytes (sym e)) in sym (ap lines nil)
 HasLines-lines most bytes found stop (faulty e) end = cc
 HasLines-lines most bytes found stop (line {lines = later} e rest) end =
     ap (λ others. first_line bytes ∷ others) (HasLines-lines (most - line_len bytes) (after_first is_lf bytes) later stop rest end)

@@ -77,8 +77,8 @@ at-input StoppedAtLine most bytes a = cc
 at-input StoppedAtInput most bytes a = (refl, refl)
 
 -- nothing remains after the line that closes a reader
-last-one : (q : Phase) (bytes : List ℕ) → q ≡ cond (nat_lt (text_len bytes) (length bytes)) Reading Closed → q ≡ Closed → after_first is_lf bytes ≡ []
-last-one q bytes e is =
+closed-rest : (q : Phase) (bytes : List ℕ) → q ≡ cond (nat_lt (text_len bytes) (length bytes)) Reading Closed → q ≡ Closed → after_first is_lf bytes ≡ []
+closed-rest q bytes e is =
     let z : length (after_first is_lf bytes) ≡ 0 = none-after (nat_lt (text_len bytes) (length bytes)) bytes refl (sym is ∙ e) in
     grind (arith, common_steps)
 
@@ -92,7 +92,7 @@ next-line old new bytes (Ok Line) left (a, t) = record {
   others = λ lines stop r.
       let fewer : new.most - new.before ≡ (old.most - old.before) - line_len bytes = grind (arith, t.most, t.before) in
       step old.phase new.phase (allowed old) bytes lines stop a t.phase (subst (λ m. RemainsAt new.phase m (after_first is_lf bytes) lines stop) fewer r);
-  last = last-one new.phase bytes t.phase;
+  last = closed-rest new.phase bytes t.phase;
 }
 next-line old new bytes (Ok End) left (a, t) = (at-end old.phase (allowed old) bytes a, t.rest, nothing-there old.phase (allowed old) bytes a)
 next-line old new bytes (Err ReadFault) left (a, t) = (

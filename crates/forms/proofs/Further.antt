@@ -2,7 +2,7 @@
 use Rattle.std.proofs.Common.{◌≡◌, ℕ, suc, ◌<◌, ◌≤◌, [], ◌∷◌, length, refl, sym, ◌∙◌, ap, subst, inl, inr, arith, Bool, true, false, ◌⊎◌, nat_lt}
 use Rattle.std.specs.Prelude.{◌&&◌, ◌||◌, not}
 use Rattle.std.specs.Cmp.{both_ways}
-use Rattle.std.proofs.lemmas.Bool.{and_parts, and_from, and_left, and_right, or_cases, or_left, or_right, lt-ltb, le-ltb}
+use Rattle.std.proofs.lemmas.Bool.{and_parts, and_from, and_left, and_right, or_cases, or_left, or_right, lt-ltb, le-ltb, false_from_ne_true}
 use Rattle.forms.specs.Word.{Word, Claim, IsSuffix, whole, later, same, some_suffix, every_suffix}
 use Rattle.forms.specs.Paths.{WordRelation, reaches, reaches_further, one_step, star}
 use Rattle.forms.proofs.Suffixes.{same-refl, same-true}
@@ -103,11 +103,7 @@ reaches_further-star q k u =
 -- a step never stays where it is
 pub stays-step : (f : Claim) (u : Word) → one_step f u u ≡ false
 stays-step f [] = refl
-stays-step f (a ∷ w) = and_left _ _ (longer (same w (a ∷ w)) (λ h. let e : w ≡ a ∷ w = same-true w (a ∷ w) h in omega (arith, ap length e)))
-  where
-    longer : (b : Bool) → (b ≡ true → ⊥) → b ≡ false
-    longer true h = absurd (h refl)
-    longer false h = refl
+stays-step f (a ∷ w) = and_left _ _ (false_from_ne_true (same w (a ∷ w)) (λ h. let e : w ≡ a ∷ w = same-true w (a ∷ w) h in omega (arith, ap length e)))
 
 -- a test stays where its claim holds
 pub stays-test : (f : Claim) (u : Word) → (same u u && f u) ≡ f u

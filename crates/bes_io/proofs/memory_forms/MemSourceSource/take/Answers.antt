@@ -1,6 +1,7 @@
 use Rattle.std.proofs.Common.{◌≤◌, length, drop, ap, arith, Some}
 use Rattle.std.proofs.lemmas.Grind.{common_steps}
-use Rattle.bes_io.proofs.Taking.{copied, none_left}
+use Rattle.std.proofs.lemmas.List.{nil_from_length}
+use Rattle.bes_io.proofs.Taking.{copied}
 use Rattle.bes_io.proofs.memory_forms.MemSourceSource.take.Goals as goal
 
 pub returns-clause-bytes : goal.returns-clause-bytes
@@ -8,5 +9,5 @@ returns-clause-bytes c =
     let le : c.min-n.result ≤ length (drop c.self.inside.at c.self.inside.bytes.items) = grind (arith, common_steps) in
     rw (← c.self.view_is) (
       ap Some (copied c.self.inside.bytes.items c.args.into.now _ c.self.inside.at c.min-n.result (grind (arith, common_steps)) le),
-      λ zero rest e. none_left rest (grind (arith, common_steps)),
+      λ zero rest e. nil_from_length rest (grind (arith, common_steps)),
     )
