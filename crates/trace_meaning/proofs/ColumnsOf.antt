@@ -1,5 +1,5 @@
 -- Columns of claims: the operators on columns give the columns of the operators on claims.
-use Rattle.std.proofs.Common.{◌≡◌, ℕ, suc, [], ◌∷◌, ◌++◌, length, append_assoc, refl, sym, ◌∙◌, ap, Bool}
+use Rattle.std.proofs.Common.{◌≡◌, ℕ, [], ◌∷◌, ◌++◌, length, append_assoc, refl, sym, ◌∙◌, ap, Bool}
 use Rattle.std.specs.Prelude.{◌&&◌, ◌||◌, replicate}
 use Rattle.forms.specs.Word.{Word, Claim}
 use Rattle.trace_meaning.specs.declared.operator.Unary.{Unary}
@@ -11,16 +11,6 @@ use Rattle.trace_meaning.specs.Star.{first_or}
 use Rattle.trace_meaning.specs.Leads.{both, one_of}
 use Rattle.trace_meaning.specs.Kept.{column_of, next_column_of}
 use Rattle.trace_meaning.proofs.Columns.{last-push, without_last-push}
-
--- a claim's column is as long as the block
-pub length-column_of : (f : Claim) (w u : Word) → length (column_of f w u) ≡ length w
-length-column_of f [] u = refl
-length-column_of f (a ∷ w) u = ap suc (length-column_of f w u)
-
--- a claim's column at the next positions is as long as the block
-pub length-next_column_of : (f : Claim) (w u : Word) → length (next_column_of f w u) ≡ length w
-length-next_column_of f [] u = refl
-length-next_column_of f (a ∷ w) u = ap suc (length-next_column_of f w u)
 
 -- claims that agree have one column
 pub column_of-agree : (f g : Claim) → ((v : Word) → f v ≡ g v) → (w u : Word) → column_of f w u ≡ column_of g w u
