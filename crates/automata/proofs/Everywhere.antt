@@ -1,9 +1,8 @@
 -- What a proper formula and the rows of an automaton say of a list of numbers is what they say of a word.
-use mathlib.Core.Path.{fun_ext}
-use Rattle.std.proofs.Common.{◌≡◌, ℕ, zero, suc, ◌<◌, [], ◌∷◌, length, refl, sym, ◌∙◌, ap, ap₂, subst, inl, inr, arith, true, nat_lt}
+use Rattle.std.proofs.Common.{◌≡◌, ℕ, zero, suc, ◌<◌, [], ◌∷◌, length, refl, sym, ◌∙◌, ap, ap₂, subst, arith, true, nat_lt}
 use Rattle.std.specs.Prelude.{◌==◌, ◌&&◌, ◌||◌, not}
 use Rattle.std.specs.Cmp.{both_ways}
-use Rattle.std.proofs.lemmas.Bool.{lt-ltb, le-ltb, cases_lt}
+use Rattle.std.proofs.lemmas.Bool.{lt-ltb}
 use Rattle.bes_io.specs.Letter.{has}
 use Rattle.forms.specs.Word.{Word, Claim, IsSuffix, whole, later, is_empty, same, some_suffix, every_suffix}
 use Rattle.forms.specs.Operators.{agree, next, weak_next, until, release, eventually, always}
@@ -13,11 +12,11 @@ use Rattle.forms.specs.Proper.{IsProper, IsProperProgram}
 use Rattle.forms.specs.Satisfaction.{sat, goes}
 use Rattle.forms.proofs.Suffixes.{IsSuffix-trans, same-refl, same-true}
 use Rattle.forms.proofs.Further.{IsSuffix-length}
-use Rattle.diagrams.specs.Eval.{Diagrams, eval, letter_truth}
-use Rattle.automata.specs.Moves.{location_after, accepts}
-use Rattle.automata.specs.Table.{Table, mark_of, row_of, next_of, moves_of, IsMeant}
+use Rattle.diagrams.specs.Eval.{Diagrams, letter_truth}
+use Rattle.automata.specs.Moves.{accepts}
+use Rattle.automata.specs.Table.{Table, mark_of, moves_of, IsMeant}
 use Rattle.automata.proofs.Letters.{spelt-truth}
-use Rattle.automata.proofs.RenumberLemmas.{letter_of, word_of, over-word_of}
+use Rattle.automata.proofs.RenumberLemmas.{letter_of, word_of, over-word_of, location_after-word_of}
 
 word_of-length : (p : ℕ) (w : Word) → length (word_of p w) ≡ length w
 word_of-length p [] = refl
@@ -26,13 +25,6 @@ word_of-length p (a ∷ w) = ap suc (word_of-length p w)
 word_of-empty : (p : ℕ) (w : Word) → is_empty w ≡ is_empty (word_of p w)
 word_of-empty p [] = refl
 word_of-empty p (a ∷ w) = refl
-
--- they have the same propositions
-letter_of-truth : (p a : ℕ) → letter_truth p (letter_of p a) ≡ letter_truth p a
-letter_of-truth p a = fun_ext (λ i. elim (cases_lt i p) [
-  | inl h ↦ spelt-truth (letter_truth p a) p i h
-  | inr h ↦ rw (le-ltb i p h) refl
-])
 
 letter_of-has : (p i a : ℕ) → i < p → has p i a ≡ has p i (letter_of p a)
 letter_of-has p i a h =
@@ -148,16 +140,9 @@ mutual
       reaches-word_of p w (λ m n. goes p q m n) (λ m. goes p r m v) (λ m. goes p r m (word_of p v)) (goes-word_of p q h.0 w) u c (λ m e. goes-word_of p r h.1 w m v e d)
   goes-word_of p (Star q) h w u v c d = star-word_of p w (λ m n. goes p q m n) (goes-word_of p q h w) u v c d
 
--- a list of numbers leads where its word does
-location_after-word_of : (s : Diagrams) (t : Table) (at : ℕ) (w : Word) → location_after (moves_of s t) at w ≡ location_after (moves_of s t) at (word_of s.props w)
-location_after-word_of s t at [] = refl
-location_after-word_of s t at (a ∷ w) =
-    ap (λ x. location_after (moves_of s t) x w) (ap (λ x. eval s (row_of t at) x) (sym (letter_of-truth s.props a)))
-    ∙ location_after-word_of s t (next_of s t at (letter_of s.props a)) w
-
 -- an automaton of a proper formula accepts every list of numbers exactly where the formula holds at its front
 pub IsMeant-everywhere : (s : Diagrams) (t : Table) (f : Formula) → IsProper s.props f → IsMeant s t f → (w : Word) → accepts (moves_of s t) w ≡ sat s.props f w
 IsMeant-everywhere s t f proper m w =
-    ap (λ at. mark_of t at == 1) (location_after-word_of s t t.first w)
+    ap (λ at. mark_of t at == 1) (sym (location_after-word_of s t t.first w))
     ∙ m.same (word_of s.props w) (over-word_of s.props w)
     ∙ sym (sat-word_of s.props f proper w)

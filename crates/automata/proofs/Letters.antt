@@ -1,5 +1,6 @@
 -- A letter for each truth of the propositions.
 use Rattle.std.proofs.Common.{◌≡◌, ◌≢◌, ℕ, zero, suc, ◌<◌, ◌^◌, ◌+◌, ◌-◌, ◌*◌, ◌/◌, ◌%◌, ◌==◌, refl, sym, ◌∙◌, ap, arith, inl, inr, ◌⊎◌, Bool, true, false, ◌&&◌}
+use Rattle.std.specs.Int.{from_bool}
 use Rattle.std.proofs.Math.Nat.{div-div-eq-div-mul}
 use Rattle.std.proofs.lemmas.Bool.{lt-ltb, cases_eq}
 use Rattle.diagrams.specs.Tree.{Assignment}
@@ -13,33 +14,31 @@ pub record IsLeastDifference (f g : ℕ → ℕ) (a : ℕ) : Type 0 where
   pub differ : f a ≢ g a
   pub least : (b : ℕ) → b < a → f b ≡ g b
 
-abbrev bit : Bool → ℕ
-bit true = 1
-bit false = 0
+-- the number of a truth value is below 2
+pub from_bool_small : (b : Bool) → from_bool b < 2
+from_bool_small true = omega arith
+from_bool_small false = omega arith
 
-bit-less : (b : Bool) → bit b < 2
-bit-less true = omega arith
-bit-less false = omega arith
-
-bit-is : (b : Bool) → (bit b == 1) ≡ b
-bit-is true = refl
-bit-is false = refl
+-- it is 1 where the value is true
+pub from_bool_one : (b : Bool) → (from_bool b == 1) ≡ b
+from_bool_one true = refl
+from_bool_one false = refl
 
 -- the number that the first n propositions spell
 abbrev pub spelt : Assignment → ℕ → ℕ
 spelt a zero = 0
-spelt a (suc n) = 2 * spelt a n + bit (a n)
+spelt a (suc n) = 2 * spelt a n + from_bool (a n)
 
 -- the number that the first n propositions spell is a letter over n propositions
 pub spelt-less : (a : Assignment) (n : ℕ) → spelt a n < 2 ^ n
 spelt-less a zero = omega arith
-spelt-less a (suc n) = let h = spelt-less a n in let b = bit-less (a n) in omega (arith, h, b)
+spelt-less a (suc n) = let h = spelt-less a n in let b = from_bool_small (a n) in omega (arith, h, b)
 
 spelt-half : (a : Assignment) (n : ℕ) → spelt a (suc n) / 2 ≡ spelt a n
-spelt-half a n = let b = bit-less (a n) in omega (arith, b)
+spelt-half a n = let b = from_bool_small (a n) in omega (arith, b)
 
-spelt-last : (a : Assignment) (n : ℕ) → spelt a (suc n) % 2 ≡ bit (a n)
-spelt-last a n = let b = bit-less (a n) in omega (arith, b)
+spelt-last : (a : Assignment) (n : ℕ) → spelt a (suc n) % 2 ≡ from_bool (a n)
+spelt-last a n = let b = from_bool_small (a n) in omega (arith, b)
 
 spelt-shift : (a : Assignment) (n d : ℕ) → spelt a (n + d) / 2 ^ d ≡ spelt a n
 spelt-shift a n zero = let e : n + 0 ≡ n = omega arith in rw (e) (omega arith)
@@ -60,10 +59,10 @@ spelt-truth a p i h =
     ap (λ z. z && (spelt a p / 2 ^ (p - 1 - i) % 2 == 1)) (lt-ltb i p h)
     ∙ ap (λ z. z % 2 == 1) s
     ∙ ap (λ z. z == 1) (spelt-last a i)
-    ∙ bit-is (a i)
+    ∙ from_bool_one (a i)
 
 -- two functions agree below n, or there is a least place where they differ
-agree_or_differ : (f g : ℕ → ℕ) (n : ℕ) → ((b : ℕ) → b < n → f b ≡ g b) ⊎ ((a : ℕ) × (a < n) × IsLeastDifference f g a)
+pub agree_or_differ : (f g : ℕ → ℕ) (n : ℕ) → ((b : ℕ) → b < n → f b ≡ g b) ⊎ ((a : ℕ) × (a < n) × IsLeastDifference f g a)
 agree_or_differ f g zero = inl (λ b h. absurd (omega (arith, h)))
 agree_or_differ f g (suc n) =
     elim (agree_or_differ f g n) [

@@ -1,6 +1,7 @@
 -- Shortlex order, and a further letter.
-use Rattle.std.proofs.Common.{◌≡◌, ◌<◌, ◌+◌, ℕ, [], ◌∷◌, ◌++◌, refl, sym, ◌∙◌, ap, arith, length, length-append, inl, inr, true, false}
+use Rattle.std.proofs.Common.{◌≡◌, ◌<◌, ℕ, [], ◌∷◌, ◌++◌, refl, sym, ◌∙◌, ap, arith, length, inl, inr, true, false}
 use Rattle.std.proofs.lemmas.Bool.{cases_Bool, true≢false, false_from_ne_true}
+use Rattle.std.proofs.lemmas.List.{length_push}
 use Rattle.forms.specs.Word.{Word}
 use Rattle.forms.specs.Shortlex.{has_lesser_letters, comes_before}
 use Rattle.forms.proofs.ShortlexLemmas.{before-shorter, before-lesser, before-cases, before-trans, before-neither, before-not_itself, before-letter, lesser-cases, lesser-less, lesser-more}
@@ -21,10 +22,6 @@ not_before-trans u v w h k =
       | inr x ↦ true≢false (sym q ∙ ap (λ z. comes_before z w) (before-neither u v h x) ∙ k)
     ])
 
--- a further letter makes a word longer by one
-pub length-more : (u : Word) (a : ℕ) → length (u ++ a ∷ []) ≡ length u + 1
-length-more u a = length-append u (a ∷ [])
-
 lesser-append : (u v x y : Word) → length u ≡ length v → has_lesser_letters u v ≡ true → has_lesser_letters (u ++ x) (v ++ y) ≡ true
 lesser-append [] v x y e h = absurd (true≢false (sym h))
 lesser-append (a ∷ u) [] x y e h = absurd (true≢false (sym h))
@@ -38,13 +35,13 @@ lesser-append (a ∷ u) (b ∷ v) x y e h =
 pub before-more : (u v : Word) (a b : ℕ) → comes_before u v ≡ true → comes_before (u ++ a ∷ []) (v ++ b ∷ []) ≡ true
 before-more u v a b h =
     elim (before-cases u v h) [
-      | inl x ↦ before-shorter (u ++ a ∷ []) (v ++ b ∷ []) (omega (arith, x, length-more u a, length-more v b))
-      | inr x ↦ before-lesser (u ++ a ∷ []) (v ++ b ∷ []) (omega (arith, x.0, length-more u a, length-more v b)) (lesser-append u v (a ∷ []) (b ∷ []) x.0 x.1)
+      | inl x ↦ before-shorter (u ++ a ∷ []) (v ++ b ∷ []) (omega (arith, x, length_push u a, length_push v b))
+      | inr x ↦ before-lesser (u ++ a ∷ []) (v ++ b ∷ []) (omega (arith, x.0, length_push u a, length_push v b)) (lesser-append u v (a ∷ []) (b ∷ []) x.0 x.1)
     ]
 
 -- a word comes before itself with a further letter
 pub before-longer : (u : Word) (a : ℕ) → comes_before u (u ++ a ∷ []) ≡ true
-before-longer u a = before-shorter u (u ++ a ∷ []) (omega (arith, length-more u a))
+before-longer u a = before-shorter u (u ++ a ∷ []) (omega (arith, length_push u a))
 
 -- of two letters after one word the lesser comes first
 pub before-last : (u : Word) (a b : ℕ) → a < b → comes_before (u ++ a ∷ []) (u ++ b ∷ []) ≡ true

@@ -1,7 +1,9 @@
 -- From a search to the renumbered automaton.
-use Rattle.std.proofs.Common.{◌≡◌, ◌<◌, ◌+◌, ◌^◌, ◌++◌, ℕ, List, [], ◌∷◌, refl, sym, ◌∙◌, ap, subst, arith, inl, inr, length, length-append}
+use mathlib.Core.Path.{fun_ext}
+use Rattle.std.proofs.Common.{◌≡◌, ◌<◌, ◌+◌, ◌^◌, ◌++◌, ℕ, List, [], ◌∷◌, refl, sym, ◌∙◌, ap, subst, arith, inl, inr, length}
 use Rattle.std.specs.Prelude.{slice_index, slice_index_or, All}
-use Rattle.std.proofs.lemmas.List.{get_or_append_left, get_or_at, get_or_default}
+use Rattle.std.proofs.lemmas.Bool.{le-ltb, cases_lt}
+use Rattle.std.proofs.lemmas.List.{get_or_append_left, get_or_at, get_or_default, length_push}
 use Rattle.forms.specs.Word.{Word, IsOver}
 use Rattle.diagrams.specs.declared.top.Id.{Id}
 use Rattle.diagrams.specs.Tree.{Assignment}
@@ -40,23 +42,27 @@ pub over-word_of : (p : ℕ) (w : Word) → IsOver p (word_of p w)
 over-word_of p [] = over-nil p
 over-word_of p (a ∷ w) = over-cons p (letter_of p a) (word_of p w) (spelt-less (letter_truth p a) p) (over-word_of p w)
 
+-- it has the same propositions
+pub letter_of-truth : (p a : ℕ) → letter_truth p (letter_of p a) ≡ letter_truth p a
+letter_of-truth p a = fun_ext (λ i. elim (cases_lt i p) [
+  | inl h ↦ spelt-truth (letter_truth p a) p i h
+  | inr h ↦ rw (le-ltb i p h) refl
+])
+
 -- the word of those letters leads where the list of numbers leads
-pub location_after-word_of : (s : Diagrams) (t : Table) → Fits s t → (at : ℕ) (w : Word) → at < size_of t
-    → location_after (moves_of s t) at (word_of s.props w) ≡ location_after (moves_of s t) at w
-location_after-word_of s t f at [] h = refl
-location_after-word_of s t f at (a ∷ w) h =
-    let e = row-spelt s t f at h (letter_truth s.props a) in
-    ap (λ z. location_after (moves_of s t) z (word_of s.props w)) (sym e)
-    ∙ location_after-word_of s t f (next_of s t at a) w ((f at h).targets (letter_truth s.props a))
+pub location_after-word_of : (s : Diagrams) (t : Table) (at : ℕ) (w : Word) → location_after (moves_of s t) at (word_of s.props w) ≡ location_after (moves_of s t) at w
+location_after-word_of s t at [] = refl
+location_after-word_of s t at (a ∷ w) =
+    location_after-word_of s t (next_of s t at (letter_of s.props a)) w
+    ∙ ap (λ x. location_after (moves_of s t) (eval s (row_of t at) x) w) (letter_of-truth s.props a)
 
 -- the marks after words over the propositions say those after every list of numbers
-pub same_marks : (s n : Diagrams) (t u : Table) → Fits s t → Fits n u → t.first < size_of t → u.first < size_of u → n.props ≡ s.props
-    → HaveSameMarksOver s.props (moves_of s t) (moves_of n u) → HaveSameMarks (moves_of s t) (moves_of n u)
-same_marks s n t u f g h k e same w =
-    ap (mark_of t) (sym (location_after-word_of s t f t.first w h))
+pub same_marks : (s n : Diagrams) (t u : Table) → n.props ≡ s.props → HaveSameMarksOver s.props (moves_of s t) (moves_of n u) → HaveSameMarks (moves_of s t) (moves_of n u)
+same_marks s n t u e same w =
+    ap (mark_of t) (sym (location_after-word_of s t t.first w))
     ∙ same (word_of s.props w) (over-word_of s.props w)
     ∙ ap (λ p. mark_after (moves_of n u) u.first (word_of p w)) (sym e)
-    ∙ ap (mark_of u) (location_after-word_of n u g u.first w k)
+    ∙ ap (mark_of u) (location_after-word_of n u u.first w)
 
 -- the place of a found location's target
 record HasPlace (p : ℕ) (found places : List ℕ) (at : ℕ) : Type 0 where
@@ -125,7 +131,7 @@ module _ (s n : Diagrams) (t u : Table) (found places : List ℕ) (closed : t.fi
   -- the renumbered automaton has the other's marks after every list of numbers
   pub renumbered_marks : HaveSameMarks (moves_of n u) (moves_of s t)
   renumbered_marks w =
-      sym (same_marks s n t u f renumbered_fits closed renumbered_part.closed.first k.extends.props
+      sym (same_marks s n t u k.extends.props
       (λ v o. sym (mark_after-part s.props (moves_of s t) (moves_of n u) renumbered_part u.first v renumbered_part.closed.first o ∙ ap (λ z. mark_after (moves_of s t) z v) renumbered_part.first)) w)
 
 -- the first location has its place
@@ -137,7 +143,7 @@ pub rows_more : (s n after : Diagrams) (t : Table) (found places : List ℕ) (ro
     → slice_index found k < size_of t → AreRows s n t found places rows k
     → Means after id (λ a. slice_index places (eval n (row_of t (slice_index found k)) a)) → AreRows s after t found places (rows ++ id ∷ []) (k + 1)
 rows_more s n after t found places rows k id keeps grows f within r m = record {
-  length = length-append rows (id ∷ []) ∙ ap (λ z. z + 1) r.length;
+  length = length_push rows id ∙ ap (λ z. z + 1) r.length;
   row = λ i l. elim (place_cases i k l) [
     | inl x ↦
         let old = r.row i x in
@@ -158,7 +164,7 @@ rows_more s n after t found places rows k id keeps grows f within r m = record {
 pub marks_more : (t : Table) (found marks : List ℕ) (k x : ℕ) → AreMarks t found marks k → x ≡ mark_of t (slice_index found k)
     → AreMarks t found (marks ++ x ∷ []) (k + 1)
 marks_more t found marks k x m e = record {
-  length = length-append marks (x ∷ []) ∙ ap (λ z. z + 1) m.length;
+  length = length_push marks x ∙ ap (λ z. z + 1) m.length;
   mark = λ i l. elim (place_cases i k l) [
     | inl h ↦ get_or_append_left marks (x ∷ []) 0 i (rw (m.length) h) ∙ m.mark i h
     | inr h ↦ rw (h) (ap (slice_index (marks ++ x ∷ [])) (sym m.length) ∙ get_or_at marks x [] 0 (length marks) refl ∙ e)

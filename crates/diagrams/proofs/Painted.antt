@@ -1,9 +1,8 @@
 -- The cubes of a tree.
-use Rattle.std.proofs.Common.{◌≡◌, ℕ, zero, suc, ◌<◌, ◌≤◌, ◌+◌, ◌-◌, arith, true, false, if◌then◌else◌, refl, sym, ◌∙◌, ap, subst, ◌⊎◌, inl, inr, List, [], ◌∷◌, ◌++◌, map, length, eqb, append_assoc, length-append, replicate, get_or, Some}
+use Rattle.std.proofs.Common.{◌≡◌, ℕ, zero, suc, ◌<◌, ◌≤◌, ◌+◌, ◌-◌, arith, true, false, if◌then◌else◌, refl, sym, ◌∙◌, ap, subst, ◌⊎◌, inl, inr, List, [], ◌∷◌, ◌++◌, map, length, append_assoc, replicate, get_or, Some}
 use Rattle.std.specs.Prelude.{◌==◌, slice_set}
 use Rattle.std.proofs.lemmas.Bool.{cases_lt, cases_order}
-use Rattle.std.proofs.lemmas.Bool.Decides.{nat_tests}
-use Rattle.std.proofs.lemmas.List.{set-get_or, set-set}
+use Rattle.std.proofs.lemmas.List.{set-get_or, set-set, length_push}
 use Rattle.std.proofs.Math.Seq.{set-append_seam}
 use mathlib.Core.Path.{fun_ext}
 use Rattle.diagrams.specs.declared.top.Id.{Id}
@@ -17,7 +16,7 @@ use Rattle.diagrams.proofs.Canon.{low, high, value_at-put, canonical, tree_size}
 use Rattle.diagrams.proofs.Meaning.{tree-node, tree-terminal, tree-reduced, live-above}
 use Rattle.diagrams.proofs.Expansion.{vars_from_depends}
 use Rattle.diagrams.proofs.Transformed.{down}
-use Rattle.diagrams.proofs.Windows.{Starts, starts_below, IsWindow, window_empty, window_constant, window_later, window_low, window_high}
+use Rattle.diagrams.proofs.Windows.{if_same, if_other, Starts, starts_below, IsWindow, window_empty, window_constant, window_later, window_low, window_high}
 
 -- the cubes of a tree over so many variables from v on
 abbrev pub cubes_at : ℕ → ℕ → Tree → List Cube
@@ -26,12 +25,6 @@ cubes_at zero v (Branch w lo hi) = []
 cubes_at (suc n) v (Constant x) = map (lead 45) (cubes_at n (suc v) (Constant x))
 cubes_at (suc n) v (Branch w lo hi) =
     if w == v then map (lead 48) (cubes_at n (suc v) lo) ++ map (lead 49) (cubes_at n (suc v) hi) else map (lead 45) (cubes_at n (suc v) (Branch w lo hi))
-
-if_same : (v w : ℕ) (xs ys : List Cube) → v ≡ w → (if w == v then xs else ys) ≡ xs
-if_same v w xs ys e = let t : eqb w v ≡ true = grind (arith, nat_tests) in rw t refl
-
-if_other : (v w : ℕ) (xs ys : List Cube) → v < w → (if w == v then xs else ys) ≡ ys
-if_other v w xs ys h = let t : eqb w v ≡ false = grind (arith, nat_tests) in rw t refl
 
 -- a tree after v does not depend on v
 free_after : (v : ℕ) (t : Tree) → Starts (suc v) t → IsReduced t → IsFree (value_at t) v
@@ -80,9 +73,6 @@ map_lead path c (cube ∷ cubes) =
     let e : path ++ c ∷ cube.text ≡ (path ++ c ∷ []) ++ cube.text = sym (append_assoc path (c ∷ []) cube.text) in
     rw (e, map_lead path c cubes) refl
 
-length-more : (path : List ℕ) (c : ℕ) → length (path ++ c ∷ []) ≡ suc (length path)
-length-more path c = length-append path (c ∷ []) ∙ omega arith
-
 move_dash : (path : List ℕ) (n c : ℕ) → path ++ c ∷ replicate n 45 ≡ (path ++ c ∷ []) ++ replicate n 45
 move_dash path n c = sym (append_assoc path (c ∷ []) (replicate n 45))
 
@@ -93,7 +83,7 @@ painted_right to zero v from path (Constant x) e w = refl
 painted_right to zero v from path (Branch u lo hi) e w = window_empty to v u lo hi w
 painted_right to (suc n) v from path (Constant x) e w =
     rw (move_dash path n 45)
-    (painted_right to n (suc v) from (path ++ 45 ∷ []) (Constant x) (rw (length-more path 45) (omega arith)) (window_constant to n v x w)
+    (painted_right to n (suc v) from (path ++ 45 ∷ []) (Constant x) (rw (length_push path 45) (omega arith)) (window_constant to n v x w)
     ∙ sym (map_lead path 45 (cubes_at n (suc v) (Constant x))))
 painted_right to (suc n) v from path (Branch u lo hi) e w =
     elim (cases_order v u) [
@@ -105,15 +95,15 @@ painted_right to (suc n) v from path (Branch u lo hi) e w =
           ∙ ap (λ p. painted p from lo ++ painted (slice_set (path ++ 45 ∷ replicate n 45) (length path) 49) from hi) (set-append_seam path 45 (replicate n 45) 48 ∙ move_dash path n 48)
           ∙ ap (λ p. painted ((path ++ 48 ∷ []) ++ replicate n 45) from lo ++ painted p from hi) (set-append_seam path 45 (replicate n 45) 49 ∙ move_dash path n 49)
           ∙ ap (λ xs. xs ++ painted ((path ++ 49 ∷ []) ++ replicate n 45) from hi)
-          (painted_right to n (suc v) from (path ++ 48 ∷ []) lo (rw (length-more path 48) (omega arith)) (window_low to n v lo hi g) ∙ sym (map_lead path 48 (cubes_at n (suc v) lo)))
+          (painted_right to n (suc v) from (path ++ 48 ∷ []) lo (rw (length_push path 48) (omega arith)) (window_low to n v lo hi g) ∙ sym (map_lead path 48 (cubes_at n (suc v) lo)))
           ∙ ap (λ ys. map (after_path path) (map (lead 48) (cubes_at n (suc v) lo)) ++ ys)
-          (painted_right to n (suc v) from (path ++ 49 ∷ []) hi (rw (length-more path 49) (omega arith)) (window_high to n v lo hi g) ∙ sym (map_lead path 49 (cubes_at n (suc v) hi)))
+          (painted_right to n (suc v) from (path ++ 49 ∷ []) hi (rw (length_push path 49) (omega arith)) (window_high to n v lo hi g) ∙ sym (map_lead path 49 (cubes_at n (suc v) hi)))
           ∙ sym (map-append (after_path path) (map (lead 48) (cubes_at n (suc v) lo)) (map (lead 49) (cubes_at n (suc v) hi)))
           ∙ ap (map (after_path path)) (sym (if_same v v _ _ refl)))
       | inr (inl k) ↦
           let z = window_later to n v u lo hi k w in
           rw (move_dash path n 45)
-          (painted_right to n (suc v) from (path ++ 45 ∷ []) (Branch u lo hi) (rw (length-more path 45) (omega arith)) z
+          (painted_right to n (suc v) from (path ++ 45 ∷ []) (Branch u lo hi) (rw (length_push path 45) (omega arith)) z
           ∙ sym (map_lead path 45 (cubes_at n (suc v) (Branch u lo hi)))
           ∙ ap (map (after_path path)) (sym (if_other v u _ _ k)))
       | inr (inr k) ↦ let st = w.starts in absurd (omega arith)

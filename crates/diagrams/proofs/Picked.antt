@@ -142,10 +142,10 @@ takes_high to n v lo hi a e never x =
           ∙ sym (if-true (is_never lo) (2 ^ (to - 1 - v) + first_number to hi) (first_number to lo) never),
     )
 
-one_constant : (x : ℕ) → x < 2 → (x == 0) ≡ false → x ≡ 1
-one_constant zero h e = absurd (cc)
-one_constant (suc zero) h e = refl
-one_constant (suc (suc x)) h e = absurd (omega arith)
+one_not_zero : (x : ℕ) → x < 2 → (x == 0) ≡ false → x ≡ 1
+one_not_zero zero h e = absurd (cc)
+one_not_zero (suc zero) h e = refl
+one_not_zero (suc (suc x)) h e = absurd (omega arith)
 
 other_never : (v : ℕ) (lo hi : Tree) → IsReduced (Branch v lo hi) → is_never lo ≡ true → is_never hi ≡ false
 other_never v lo hi r e =
@@ -156,7 +156,7 @@ other_never v lo hi r e =
 
 -- a tree that is not the constant 0 is 1 with its number
 pub takes : (to n v : ℕ) (t : Tree) → IsWindow to n v t → ((a : Assignment) → value_at t a < 2) → is_never t ≡ false → (a : Assignment) → Takes to n v t a
-takes to zero v (Constant x) h truth e a = (a, (λ w o. refl), one_constant x (truth a) e, refl)
+takes to zero v (Constant x) h truth e a = (a, (λ w o. refl), one_not_zero x (truth a) e, refl)
 takes to zero v (Branch w lo hi) h truth e a = window_empty to v w lo hi h
 takes to (suc n) v (Constant x) h truth e a = takes_later to n v (Constant x) a h.end (takes to n (suc v) (Constant x) (window_constant to n v x h) truth e (put a v false))
 takes to (suc n) v (Branch w lo hi) h truth e a =

@@ -1,12 +1,12 @@
 -- The fields of a store as nodes are added.
-use Rattle.std.proofs.Common.{◌≡◌, ℕ, zero, suc, ◌≤◌, ◌+◌, Bool, true, false, cond, refl, sym, ◌∙◌, ap, arith, ◌⊎◌, inl, inr, Option, Some, None, List, [], ◌∷◌, ◌++◌, length, map, eqb, eq-eqb, take, ◌-◌, get_or}
+use Rattle.std.proofs.Common.{◌≡◌, ℕ, zero, suc, ◌<◌, ◌≤◌, ◌+◌, Bool, true, false, cond, refl, sym, ◌∙◌, ap, arith, ◌⊎◌, inl, inr, Option, Some, None, List, [], ◌∷◌, ◌++◌, length, map, eqb, eq-eqb, take, ◌-◌, get_or}
 use Rattle.std.proofs.lemmas.Grind.{common_steps}
 use Rattle.std.specs.Prelude.{◌&&◌}
 use Rattle.std.specs.Prelude.{slice_get}
 use Rattle.std.specs.Option.{option_flatten, option_map}
 use Rattle.std.proofs.lemmas.Bool.{cases_Bool, and_parts, eqb-true}
 use Rattle.std.specs.HashMap as hash
-use Rattle.std.proofs.lemmas.Option.{slice_get-map, slice_get_within, slice_get_read}
+use Rattle.std.proofs.lemmas.Option.{none-some, same_Some, slice_get-map, slice_get_within, slice_get_read}
 use Rattle.diagrams.specs.declared.top.Id.{Id}
 use Rattle.diagrams.specs.declared.top.Look.{Look}
 use Rattle.diagrams.specs.declared.top.Look.TheVariants.{Terminal, Node}
@@ -31,21 +31,25 @@ pub top-plain : (p : ℕ) (xs : List Look) (i : Id) → top_of (plain p xs) i �
 unfolding top_of
 top-plain p xs i = rw (slice_get-map Some xs i.0) (flat (slice_get xs i.0))
 
--- what stands in the list stands there still with one more at its end
-pub get-push_old : (xs : List Look) (n m : Look) (k : ℕ) → slice_get xs k ≡ Some m → slice_get (xs ++ n ∷ []) k ≡ Some m
-get-push_old [] n m k e = absurd (cc)
-get-push_old (x ∷ xs) n m zero e = e
-get-push_old (x ∷ xs) n m (suc k) e = get-push_old xs n m k e
+-- what stands in the first of two lists stands there still with the other at its end
+pub get-append : {A : Type 0} (xs ys : List A) (k : ℕ) → k < length xs → slice_get (xs ++ ys) k ≡ slice_get xs k
+get-append [] ys k h = absurd (omega arith)
+get-append (x ∷ xs) ys zero h = refl
+get-append (x ∷ xs) ys (suc k) h = get-append xs ys k (omega arith)
 
--- the one more stands after the others
-pub get-push_new : {A : Type 0} (xs : List A) (n : A) → slice_get (xs ++ n ∷ []) (length xs) ≡ Some n
-get-push_new [] n = refl
-get-push_new (x ∷ xs) n = get-push_new xs n
+-- and so does an item with one more
+pub get-push_old : {A : Type 0} (xs : List A) (n m : A) (k : ℕ) → slice_get xs k ≡ Some m → slice_get (xs ++ n ∷ []) k ≡ Some m
+get-push_old xs n m k e = get-append xs (n ∷ []) k (slice_get_within xs k m e) ∙ e
+
+-- the head of the second of two lists stands after the first
+pub get-append_next : {A : Type 0} (xs ys : List A) (n : A) → slice_get (xs ++ n ∷ ys) (length xs) ≡ Some n
+get-append_next [] ys n = refl
+get-append_next (x ∷ xs) ys n = get-append_next xs ys n
 
 -- what stands in the list with one more stood there before, or is the one more
-pub get-push_cases : (xs : List Look) (n m : Look) (k : ℕ) → slice_get (xs ++ n ∷ []) k ≡ Some m → (slice_get xs k ≡ Some m) ⊎ ((k ≡ length xs) × (m ≡ n))
-get-push_cases [] n m zero e = inr (refl, cc)
-get-push_cases [] n m (suc k) e = absurd (cc)
+pub get-push_cases : {A : Type 0} (xs : List A) (n m : A) (k : ℕ) → slice_get (xs ++ n ∷ []) k ≡ Some m → (slice_get xs k ≡ Some m) ⊎ ((k ≡ length xs) × (m ≡ n))
+get-push_cases [] n m zero e = inr (refl, sym (same_Some n m e))
+get-push_cases [] n m (suc k) e = absurd (none-some m e)
 get-push_cases (x ∷ xs) n m zero e = inl e
 get-push_cases (x ∷ xs) n m (suc k) e =
     elim (get-push_cases xs n m k e) [ inl p ↦ inl p | inr p ↦ inr (ap suc p.0, p.1) ]
@@ -57,7 +61,7 @@ push_adds p xs n = record {
     props = refl;
     tops = λ i m e. top-plain p (xs ++ n ∷ []) i ∙ get-push_old xs n m i.0 (sym (top-plain p xs i) ∙ e);
   };
-  at = top-plain p (xs ++ n ∷ []) (record { 0 = length xs }) ∙ get-push_new xs n;
+  at = top-plain p (xs ++ n ∷ []) (record { 0 = length xs }) ∙ get-append_next xs [] n;
   only = λ j m e.
       elim (get-push_cases xs n m j.0 (sym (top-plain p (xs ++ n ∷ []) j) ∙ e)) [
         | inl q ↦ inl (top-plain p xs j ∙ q)
@@ -170,8 +174,8 @@ grows a b top id k f absent props items e up =
     }
 
 -- fields that mean the same store, with the same table
-pub kept_same : (a b : Inside) → HasUniqueTable a → b.props ≡ a.props → b.nodes.items ≡ a.nodes.items → b.unique.entries ≡ a.unique.entries → HasUniqueTable b
-kept_same a b k p q r = record {
+pub table_same : (a b : Inside) → HasUniqueTable a → b.props ≡ a.props → b.nodes.items ≡ a.nodes.items → b.unique.entries ≡ a.unique.entries → HasUniqueTable b
+table_same a b k p q r = record {
   few = rw p k.few;
   canonical = rw (p, q) k.canonical;
   found = λ i n e. rw r (k.found i n (rw (p, q) at e));

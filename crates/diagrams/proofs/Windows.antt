@@ -1,5 +1,7 @@
 -- Trees over the variables of a window: so many from v to before `to`.
-use Rattle.std.proofs.Common.{◌≡◌, ℕ, suc, ◌<◌, ◌≤◌, ◌+◌, arith, Bool, true, false, if◌then◌else◌, refl}
+use Rattle.std.proofs.Common.{◌≡◌, ℕ, suc, ◌<◌, ◌≤◌, ◌+◌, arith, eqb, Bool, true, false, if◌then◌else◌, refl}
+use Rattle.std.specs.Prelude.{◌==◌}
+use Rattle.std.proofs.lemmas.Bool.Decides.{nat_tests}
 use Rattle.diagrams.specs.Tree.{Tree, Constant, Branch, IsAbove, IsReduced, AllVars}
 
 -- what a choice gives where its test is true
@@ -9,6 +11,19 @@ if-true b x y e = rw e refl
 -- what a choice gives where its test is false
 pub if-false : (b : Bool) (x y : ℕ) → b ≡ false → (if b then x else y) ≡ y
 if-false b x y e = rw e refl
+
+-- what a choice gives at the number that it asks for
+pub if_same : {X : Type 0} (v w : ℕ) (x y : X) → v ≡ w → (if w == v then x else y) ≡ x
+if_same v w x y e = let t : eqb w v ≡ true = grind (arith, nat_tests) in rw t refl
+
+-- what a choice gives at a number above the one that it asks for
+pub if_other : {X : Type 0} (v w : ℕ) (x y : X) → v < w → (if w == v then x else y) ≡ y
+if_other v w x y h = let t : eqb w v ≡ false = grind (arith, nat_tests) in rw t refl
+
+-- a choice of numbers below a bound is below it
+pub if_below : (b : Bool) (x y n : ℕ) → x < n → y < n → (if b then x else y) < n
+if_below true x y n h k = h
+if_below false x y n h k = k
 
 -- the tree has no variable before v
 abbrev pub Starts : ℕ → Tree → Type 0

@@ -1,13 +1,14 @@
 -- What the empty word tells apart.
-use Rattle.std.proofs.Common.{◌≡◌, ◌≢◌, ◌<◌, ◌≤◌, ◌⊎◌, ℕ, zero, suc, List, [], ◌∷◌, refl, sym, ◌∙◌, ap, arith, inl, inr, length, true}
+use Rattle.std.proofs.Common.{◌≡◌, ◌≢◌, ◌<◌, ℕ, zero, suc, List, [], ◌∷◌, refl, sym, ◌∙◌, ap, arith, inl, inr, length, true}
 use Rattle.std.specs.Prelude.{slice_index, slice_index_or}
-use Rattle.std.proofs.lemmas.Bool.{cases_eq, true≢false}
+use Rattle.std.proofs.lemmas.Bool.{true≢false}
 use Rattle.std.proofs.lemmas.List.Elements.{All-nil, All-cons}
 use Rattle.forms.specs.Word.{Word}
 use Rattle.forms.specs.Shortlex.{has_lesser_letters, comes_before}
 use Rattle.forms.proofs.ShortlexLemmas.{before-cases}
 use Rattle.automata.specs.Moves.{Moves, mark_after, IsClosed}
 use Rattle.automata.specs.Table.{Table, size_of, mark_of, moves_of}
+use Rattle.automata.proofs.Letters.{agree_or_differ}
 use Rattle.automata.proofs.Words.{over-nil}
 use Rattle.diagrams.specs.Eval.{Diagrams}
 use Rattle.minimise.specs.Rounds.{IsDivided}
@@ -26,18 +27,6 @@ none_before v h = elim (before-cases v [] h) [ inl g ↦ g | inr g ↦ absurd (e
 -- the empty word tells locations of different marks apart
 empty_least : (p : ℕ) (m : Moves) (i j : ℕ) → m.mark i ≢ m.mark j → IsLeastDistinguishing p m i j []
 empty_least p m i j n = record { over = over-nil p; differ = n; least = λ v o b. absurd (omega (arith, none_before v b)) }
-
--- some item is not 0, or all are
-pub zeros_or : (xs : List ℕ) (n : ℕ) → n ≤ length xs → ((k : ℕ) → k < n → slice_index xs k ≡ 0) ⊎ ((k : ℕ) × (k < n) × (slice_index xs k ≢ 0))
-zeros_or xs zero l = inl (λ k h. absurd (omega (arith, h)))
-zeros_or xs (suc n) l =
-    elim (zeros_or xs n (omega (arith, l))) [
-      | inr r ↦ inr (r.0, omega (arith, r.1), r.2)
-      | inl e ↦ elim (cases_eq (slice_index xs n) 0) [
-        | inl z ↦ inl (λ k h. elim (cases_eq k n) [ inl q ↦ rw (q) z | inr q ↦ e k (omega (arith, h, q)) ])
-        | inr z ↦ inr (n, omega arith, z)
-      ]
-    ]
 
 module _ (s : Diagrams) (t : Table) (blocks : List ℕ) (c : IsClosed s.props (moves_of s t)) (b : IsByMarks t blocks) where
   one_mark : (i j : ℕ) → i < size_of t → j < size_of t → slice_index blocks i ≡ slice_index blocks j → mark_of t i ≡ mark_of t j
@@ -94,7 +83,7 @@ module _ (s : Diagrams) (t : Table) (blocks : List ℕ) (c : IsClosed s.props (m
   })
     where
       needed : IsLeastForSome s.props (moves_of s t) []
-      needed = elim (zeros_or blocks (length blocks) (omega arith)) [
+      needed = elim (agree_or_differ (slice_index blocks) (λ _. 0) (length blocks)) [
         | inl z ↦ absurd (other z)
         | inr z ↦
             let h : z.0 < size_of t = rw (← b.size) z.1 in
@@ -105,7 +94,7 @@ module _ (s : Diagrams) (t : Table) (blocks : List ℕ) (c : IsClosed s.props (m
               other = 0;
               one_within = h;
               other_within = first;
-              least = empty_least s.props (moves_of s t) z.0 0 (λ w. z.2 (b.one z.0 0 h first w ∙ zero-block));
+              least = empty_least s.props (moves_of s t) z.0 0 (λ w. z.2.differ (b.one z.0 0 h first w ∙ zero-block));
             }
       ]
 

@@ -10,7 +10,7 @@ use Rattle.automata.specs.Moves.{Moves, mark_after}
 use Rattle.automata.specs.Table.{Table, size_of, mark_of, Fits, next_of, moves_of}
 use Rattle.automata.proofs.Words.{over-tail}
 use Rattle.distinguish.specs.declared.steps.Step.{Step}
-use Rattle.distinguish.specs.Differences.{IsOverLetters, IsLeastDifference}
+use Rattle.distinguish.specs.Differences.{IsLeastDifference}
 use Rattle.minimise.specs.Divisions.{AreBlockRows, HaveOneKey, IsDivision}
 use Rattle.distinguish.specs.Columns.{mark_in}
 use Rattle.distinguish.specs.Rounds.{IsDividedByWords}
@@ -20,12 +20,6 @@ use Rattle.distinguish.proofs.WordLemmas.{distinguishing_steps, first_is_least}
 
 module _ (s : Diagrams) (t : Table) (blocks : List ℕ) (words : List Word) (columns : List (List ℕ)) (rows : List Id) (f : Fits s t)
     (r : AreBlockRows s s t blocks rows (size_of t)) (g : IsDividedByWords s.props (moves_of s t) blocks words columns) where
-  -- relabelled rows are diagrams over propositions
-  pub row_over : (at : ℕ) → at < size_of t → IsOverLetters s (id_at rows at)
-  row_over at h =
-      let m = r.row at h in
-      record { live = m.live; letters = λ a b same. m.value a ∙ ap (slice_index blocks) ((f at h).letters a b same) ∙ sym (m.value b) }
-
   row-value : (at b : ℕ) → at < size_of t → eval s (id_at rows at) (letter_truth s.props b) ≡ slice_index blocks (next_of s t at b)
   row-value at b h = (r.row at h).value (letter_truth s.props b)
 

@@ -3,6 +3,7 @@ use Rattle.std.proofs.Common.{◌≡◌, ◌<◌, ◌≤◌, ◌+◌, ◌++◌, 
 use Rattle.std.specs.Prelude.{AllPairs, Any, Contains, slice_index, slice_index_or, cond}
 use Rattle.std.proofs.lemmas.Bool.{cases_order, cases_Bool, true≢false, and_parts, eqb-true}
 use Rattle.std.proofs.lemmas.List.Elements.{All-push, Contains-append_left, Contains-push}
+use Rattle.std.proofs.lemmas.Option.{none-some, same_Some}
 use Rattle.forms.specs.Word.{Word}
 use Rattle.forms.specs.Shortlex.{comes_before}
 use Rattle.forms.proofs.ShortlexLemmas.{before-trans, before-not_itself, before-total}
@@ -17,7 +18,6 @@ use Rattle.distinguish.specs.Trees.{IsBelow, here, down, IsBranch, IsTreeFor}
 use Rattle.distinguish.proofs.ListLemmas.{any_left}
 use Rattle.distinguish.proofs.RoundLemmas.{step_same}
 use Rattle.distinguish.proofs.WordLemmas.{least_swap}
-use Rattle.minimise.proofs.DivisionLemmas.{some_same}
 
 -- of the least words that tell i from x and from y, one that comes before the other is the least that tells x from y
 earlier_tells : (p : ℕ) (m : Moves) (i x y : ℕ) (u v : Word) → IsLeastDistinguishing p m i x u → IsLeastDistinguishing p m i y v → comes_before u v ≡ true
@@ -36,9 +36,6 @@ place_once words order i j k e h =
 
 cons_parts : (a b : ℕ) (u v : Word) → a ∷ u ≡ b ∷ v → (a ≡ b) × (u ≡ v)
 cons_parts a b u v e = (cc, cc)
-
-none_some : (x : ℕ) → None ≡ Some x → ⊥
-none_some x e = cc
 
 -- whether two branches are the same
 abbrev pub same_branch : Branch → Branch → Bool
@@ -139,7 +136,7 @@ module _ (p : ℕ) (m : Moves) (blocks next : List ℕ) (words : List Word) (ord
       | inl a ↦ inl a
       | inr r ↦ elim (told_or_below p m blocks next words order target steps at from x step (λ i t s z. (tree.branch i t s z).listed) b.listed f r) [
         | inl a ↦ inl a
-        | inr z ↦ inr (subst (IsBelow p m words target x) (some_same z.0 to (sym z.1 ∙ e)) z.2)
+        | inr z ↦ inr (subst (IsBelow p m words target x) (same_Some z.0 to (sym z.1 ∙ e)) z.2)
       ]
     ];
     way = λ more has r. w.way more has (down f (has (record { from = from; step = step }) to e) r);
@@ -163,7 +160,7 @@ module _ (p : ℕ) (m : Moves) (blocks next : List ℕ) (words : List Word) (ord
 
     has-branches : HasBranches target new
     has-branches b to e = elim (cases_Bool (same_branch (record { from = from; step = step }) b)) [
-      | inl q ↦ absurd (none_some to (sym none ∙ ap target (branch_true (record { from = from; step = step }) b q) ∙ e))
+      | inl q ↦ absurd (none-some to (sym none ∙ ap target (branch_true (record { from = from; step = step }) b q) ∙ e))
       | inr q ↦ old-branch b q ∙ e
     ]
 
@@ -174,7 +171,7 @@ module _ (p : ℕ) (m : Moves) (blocks next : List ℕ) (words : List Word) (ord
           elim (told_or_below p m blocks next words order target (steps ++ step ∷ []) at from x step
           (λ i t s z. Contains-append_left steps (step ∷ []) s (tree.branch i t s z).listed) (Contains-push steps step) f r) [
             | inl a ↦ a
-            | inr z ↦ absurd (none_some z.0 (sym none ∙ z.1))
+            | inr z ↦ absurd (none-some z.0 (sym none ∙ z.1))
           ]
     ]
 
@@ -196,7 +193,7 @@ module _ (p : ℕ) (m : Moves) (blocks next : List ℕ) (words : List Word) (ord
           let b = branch_true (record { from = from; step = step }) (record { from = i; step = s }) q in
           let begin : from ≡ i = ap (λ z. z.from) b in
           let own : step ≡ s = ap (λ z. z.step) b in
-          let end : at ≡ to = some_same at to (sym new-branch ∙ ap new b ∙ e) in
+          let end : at ≡ to = same_Some at to (sym new-branch ∙ ap new b ∙ e) in
           record {
             later = omega (arith, w.lesser, begin, end);
             within = omega (arith, end);

@@ -1,11 +1,12 @@
 -- Ordered lists with the same words are one list.
-use Rattle.std.proofs.Common.{◌≡◌, ◌≢◌, ◌<◌, ℕ, zero, suc, List, [], ◌∷◌, refl, sym, ◌∙◌, ap, subst, arith, inl, inr, true, All, ◌⊎◌}
+use Rattle.std.proofs.Common.{◌≡◌, ◌≢◌, ◌<◌, ℕ, suc, List, [], ◌∷◌, refl, sym, ◌∙◌, ap, subst, arith, inl, inr, true, All}
 use Rattle.std.specs.Prelude.{AllPairs, Any, Contains}
 use Rattle.std.proofs.lemmas.Bool.{true≢false}
 use Rattle.std.proofs.lemmas.List.Elements.{All-contains}
 use Rattle.forms.specs.Word.{Word}
 use Rattle.forms.specs.Shortlex.{comes_before}
 use Rattle.forms.proofs.ShortlexLemmas.{before-not_itself, before-total}
+use Rattle.diagrams.proofs.Firsts.{Contains-head, Contains-tail, Contains-cons_cases}
 use Rattle.automata.proofs.Order.{before-once}
 use Rattle.automata.specs.Moves.{Moves, mark_after}
 use Rattle.distinguish.specs.Telling.{IsLeastDistinguishing, IsLeastForSome, TellingListIsUnique}
@@ -21,24 +22,14 @@ order-tail u us o i j d h k = o (suc i) (suc j) d (omega (arith, h)) (omega (ari
 order-head : (u : Word) (us : List Word) → IsOrdered (u ∷ us) → (w : Word) → Contains us w → comes_before u w ≡ true
 order-head u us o w c = ap (comes_before u) (sym c.2) ∙ o 0 (suc c.0) w (omega arith) (omega (arith, c.1))
 
-contains-first : (u : Word) (us : List Word) → Contains (u ∷ us) u
-contains-first u us = (0, omega arith, refl)
-
-contains-cases : (u w : Word) (us : List Word) → Contains (u ∷ us) w → (u ≡ w) ⊎ Contains us w
-contains-cases u w us (zero, h, e) = inl e
-contains-cases u w us (suc k, h, e) = inr (k, omega (arith, h), e)
-
-contains-later : (u w : Word) (us : List Word) → Contains us w → Contains (u ∷ us) w
-contains-later u w us c = (suc c.0, omega (arith, c.1), c.2)
-
 abbrev AreAmong : List Word → List Word → Type 0
 AreAmong us vs = (w : Word) → Contains us w → Contains vs w
 
 same_heads : (u v : Word) (us vs : List Word) → IsOrdered (u ∷ us) → IsOrdered (v ∷ vs) → AreAmong (u ∷ us) (v ∷ vs) → AreAmong (v ∷ vs) (u ∷ us) → u ≡ v
 same_heads u v us vs o q f g =
-    elim (contains-cases v u vs (f u (contains-first u us))) [
+    elim (Contains-cons_cases v u vs (f u (Contains-head u us))) [
       | inl e ↦ sym e
-      | inr c ↦ elim (contains-cases u v us (g v (contains-first v vs))) [
+      | inr c ↦ elim (Contains-cons_cases u v us (g v (Contains-head v vs))) [
         | inl e ↦ e
         | inr d ↦ absurd (before-once u v (order-head u us o v d) (order-head v vs q u c))
       ]
@@ -47,7 +38,7 @@ same_heads u v us vs o q f g =
 -- a word of the rest is in the other rest
 among-rest : (u v : Word) (us vs : List Word) → IsOrdered (u ∷ us) → u ≡ v → AreAmong (u ∷ us) (v ∷ vs) → AreAmong us vs
 among-rest u v us vs o e f w c =
-    elim (contains-cases v w vs (f w (contains-later u w us c))) [
+    elim (Contains-cons_cases v w vs (f w (Contains-tail u w us c))) [
       | inl q ↦ absurd (true≢false (sym (order-head u us o w c) ∙ ap (λ z. comes_before z w) (e ∙ q) ∙ before-not_itself w))
       | inr d ↦ d
     ]
@@ -55,8 +46,8 @@ among-rest u v us vs o e f w c =
 -- ordered lists with the same words are one
 pub one_list : (us vs : List Word) → IsOrdered us → IsOrdered vs → AreAmong us vs → AreAmong vs us → us ≡ vs
 one_list [] [] o q f g = refl
-one_list [] (v ∷ vs) o q f g = let c = g v (contains-first v vs) in absurd (omega (arith, c.1))
-one_list (u ∷ us) [] o q f g = let c = f u (contains-first u us) in absurd (omega (arith, c.1))
+one_list [] (v ∷ vs) o q f g = let c = g v (Contains-head v vs) in absurd (omega (arith, c.1))
+one_list (u ∷ us) [] o q f g = let c = f u (Contains-head u us) in absurd (omega (arith, c.1))
 one_list (u ∷ us) (v ∷ vs) o q f g =
     let e = same_heads u v us vs o q f g in
     let r : us ≡ vs = one_list us vs (order-tail u us o) (order-tail v vs q) (among-rest u v us vs o e f) (among-rest v u vs us q (sym e) g) in

@@ -48,26 +48,26 @@ separated p m f l d i j h k n u v o q e g =
           (sym (claim-append p m f d u t.word o t.over i e) ∙ same ∙ claim-append p m f d v t.word q t.over j g));
     }
 
-word_of : (p : ℕ) (m : Moves) → IsLeast p m → ℕ → Word
-word_of p m l at = (named p m l at).word
+least_word_of : (p : ℕ) (m : Moves) → IsLeast p m → ℕ → Word
+least_word_of p m l at = (named p m l at).word
 
 words_of : (p : ℕ) (m : Moves) → IsLeast p m → List Word
-words_of p m l = map (word_of p m l) (range_with_len 0 m.size)
+words_of p m l = map (least_word_of p m l) (range_with_len 0 m.size)
 
 words_of-length : (p : ℕ) (m : Moves) (l : IsLeast p m) → length (words_of p m l) ≡ m.size
 unfolding words_of
-words_of-length p m l = length-map-range_with_len (word_of p m l) 0 m.size
+words_of-length p m l = length-map-range_with_len (least_word_of p m l) 0 m.size
 
-words_of-at : (p : ℕ) (m : Moves) (l : IsLeast p m) (i : ℕ) (e : Word) → i < m.size → get_or (words_of p m l) i e ≡ word_of p m l i
+words_of-at : (p : ℕ) (m : Moves) (l : IsLeast p m) (i : ℕ) (e : Word) → i < m.size → get_or (words_of p m l) i e ≡ least_word_of p m l i
 unfolding words_of
-words_of-at p m l i e h = get_or-map-range_with_len (word_of p m l) 0 m.size i i e h (omega arith)
+words_of-at p m l i e h = get_or-map-range_with_len (least_word_of p m l) 0 m.size i i e h (omega arith)
 
 words_of-over : (p : ℕ) (m : Moves) (l : IsLeast p m) → All (IsOver p) (words_of p m l)
-unfolding words_of word_of
-words_of-over p m l = All-map (IsOver p) (word_of p m l) (range_with_len 0 m.size) (λ k e h. (named p m l _).over)
+unfolding words_of least_word_of
+words_of-over p m l = All-map (IsOver p) (least_word_of p m l) (range_with_len 0 m.size) (λ k e h. (named p m l _).over)
 
 words_of-differ : (p : ℕ) (m : Moves) (f : Claim) (l : IsLeast p m) → Decides p m f → AllPairs (AreDistinguishable p f) (words_of p m l)
-unfolding word_of
+unfolding least_word_of
 words_of-differ p m f l d i j e h k =
     let k2 : j < m.size = subst (λ n. j < n) (words_of-length p m l) k in
     let h2 : i < m.size = omega (arith, h, k2) in
@@ -77,7 +77,7 @@ words_of-differ p m f l d i j e h k =
     (separated p m f l d i j h2 k2 (λ q. absurd (omega (arith, h, q))) a.word b.word a.over b.over (a.leads h2) (b.leads k2))
 
 words_of-cover : (p : ℕ) (m : Moves) (f : Claim) (l : IsLeast p m) → Decides p m f → (u : Word) → IsOver p u → Any (AreEquivalent p f u) (words_of p m l)
-unfolding word_of
+unfolding least_word_of
 words_of-cover p m f l d u o =
     let at = location_after m m.first u in
     let h = location_after-within p m l.closed m.first u l.closed.first o in

@@ -3,6 +3,7 @@ use Rattle.std.proofs.Common.{◌≡◌, ◌<◌, ◌≤◌, ◌+◌, ◌++◌, 
 use Rattle.std.specs.Prelude.{slice_index}
 use Rattle.std.specs.HashMap.{HashMap, get}
 use Rattle.std.proofs.lemmas.Bool.{cases_Bool}
+use Rattle.std.proofs.lemmas.Option.{same_Some}
 use Rattle.std.proofs.lemmas.List.{get_or_append_left, get_or_at, length-map, map-append}
 use Rattle.diagrams.specs.declared.top.Id.{Id}
 use Rattle.diagrams.specs.Eval.{Diagrams, eval, letter_truth, id_at}
@@ -33,10 +34,10 @@ pub rows_none : (s : Diagrams) (t : Table) (blocks : List ℕ) (rows : List Id) 
 rows_none s t blocks rows e = record { size = ap length e; row = λ at h. absurd (omega (arith, h)) }
 
 -- one more row
-pub rows_more : (s n after : Diagrams) (t : Table) (blocks : List ℕ) (rows : List Id) (count : ℕ) (row id : Id) → Keeps s n → Keeps n after → Fits s t → count < size_of t
+pub block_rows_more : (s n after : Diagrams) (t : Table) (blocks : List ℕ) (rows : List Id) (count : ℕ) (row id : Id) → Keeps s n → Keeps n after → Fits s t → count < size_of t
     → AreBlockRows s n t blocks rows count → row ≡ row_of t count → Means after id (λ a. slice_index blocks (eval n row a))
     → AreBlockRows s after t blocks (rows ++ id ∷ []) (count + 1)
-rows_more s n after t blocks rows count row id keeps grows f within k r m = record {
+block_rows_more s n after t blocks rows count row id keeps grows f within k r m = record {
   size = length-append rows (id ∷ []) ∙ ap (λ z. z + 1) k.size;
   row = λ i l. elim (place_cases i count l) [
     | inl h ↦ rw (get_or_append_left rows (id ∷ []) (record { 0 = 0 }) i (rw (k.size) h)) (means_lasts n after grows (id_at rows i) _ (k.row i h))
@@ -63,10 +64,6 @@ rows_now s n t blocks rows k f r = record {
         value = λ a. m.value a ∙ ap (slice_index blocks) (sym (eval-lasts s n k.was k.now k.extends (row_of t at) (f at h).live a));
       };
 }
-
--- two options that are the same number have one
-pub some_same : (x y : ℕ) → Some x ≡ Some y → x ≡ y
-some_same x y e = cc
 
 option_cases : (o : Option ℕ) → (o ≡ None) ⊎ ((x : ℕ) × (o ≡ Some x))
 option_cases None = inl refl
@@ -121,7 +118,7 @@ dividing_more t rows old new blocks at x d e up = record {
   ];
   right = λ k y q. elim (cases_Bool (same_key (key_of t rows at) k)) [
     | inl s ↦
-        let is : x ≡ y = some_same x y (sym (up k ∙ ap (λ b. if b then Some x else get same_key old k) s) ∙ q) in
+        let is : x ≡ y = same_Some x y (sym (up k ∙ ap (λ b. if b then Some x else get same_key old k) s) ∙ q) in
         let low = f.low in
         (omega (arith, low, is), ap (key_of t rows) (sym is) ∙ f.key ∙ key_true (key_of t rows at) k s)
     | inr s ↦

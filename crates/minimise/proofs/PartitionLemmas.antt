@@ -10,7 +10,7 @@ use Rattle.minimise.specs.declared.blocks.Key.{Key}
 use Rattle.minimise.specs.Blocks.{blocks_among, IsInOrder, same_key, IsPartition}
 use Rattle.minimise.proofs.BlockLemmas.{among-new, among-old, blocks_are_few}
 use Rattle.automata.proofs.FindingLemmas.{place_cases}
-use Rattle.diagrams.proofs.Table.{get-push_new}
+use Rattle.diagrams.proofs.Table.{get-push_old, get-push_cases}
 
 -- keys that are the same are equal
 pub key_true : (x y : Key) → same_key x y ≡ true → x ≡ y
@@ -30,12 +30,6 @@ any-at p [] j k e h = absurd (cc)
 any-at p (x ∷ ks) zero k e h = let q : x ≡ k = cc in or_left _ _ (ap p q ∙ h)
 any-at p (x ∷ ks) (suc j) k e h = or_right (p x) _ (any-at p ks j k e h)
 
--- a key at the end leaves the others where they are
-pub get-push_before : (ks : List Key) (x : Key) (i : ℕ) → i < length ks → slice_get (ks ++ x ∷ []) i ≡ slice_get ks i
-get-push_before [] x i h = absurd (omega (arith, h))
-get-push_before (y ∷ ks) x zero h = refl
-get-push_before (y ∷ ks) x (suc i) h = get-push_before ks x i (omega (arith, h))
-
 -- what an insertion leaves: the key where it was, or at the end
 IsInserted : List Key → List Key → Key → ℕ → Type 0
 IsInserted old new key i = ((new ≡ old) × (slice_get old i ≡ Some key))
@@ -50,13 +44,9 @@ inserted old new key i e at =
           let more : new ≡ old ++ key ∷ [] = e ∙ ap (λ b. if b then old else old ++ key ∷ []) f in
           let absent : (j : ℕ) → slice_get old j ≡ Some key → ⊥ = λ j q. true≢false (sym (any-at (same_key key) old j key q (key_same key)) ∙ f) in
           let here : slice_get (old ++ key ∷ []) i ≡ Some key = ap (λ ks. slice_get ks i) (sym more) ∙ at in
-          let l = slice_get_within (old ++ key ∷ []) i key here in
           inr (
             more,
-            elim (place_cases i (length old) (omega (arith, l, length-append old (key ∷ [])))) [
-              | inl h ↦ absurd (absent i (sym (get-push_before old key i h) ∙ here))
-              | inr h ↦ h
-            ],
+            elim (get-push_cases old key key i here) [ inl h ↦ absurd (absent i h) | inr h ↦ h.0 ],
             absent,
           )
     ]
@@ -89,13 +79,13 @@ among_new : (bs : List ℕ) (b : ℕ) → b ≡ blocks_among (slice_index bs) (l
 among_new bs b h =
     among-new (slice_index (bs ++ b ∷ [])) (length bs) (get_or_at bs b [] 0 (length bs) refl ∙ h ∙ sym (same_among bs b)) ∙ ap suc (same_among bs b)
 
-keys_more : (keys : List Key) (bs : List ℕ) (old new : List Key) (b : ℕ) (key : Key) (count : ℕ) → length bs ≡ count
+partition_keys_more : (keys : List Key) (bs : List ℕ) (old new : List Key) (b : ℕ) (key : Key) (count : ℕ) → length bs ≡ count
     → ((i : ℕ) → i < count → slice_get old (slice_index bs i) ≡ slice_get keys i)
     → ((j : ℕ) (k : Key) → slice_get old j ≡ Some k → slice_get new j ≡ Some k)
     → slice_get keys count ≡ Some key → slice_get new b ≡ Some key
     → ((i : ℕ) → i < count → (k : Key) × (slice_get keys i ≡ Some k))
     → (i : ℕ) → i < count + 1 → slice_get new (slice_index (bs ++ b ∷ []) i) ≡ slice_get keys i
-keys_more keys bs old new b key count e f lasts at here some i l = elim (place_cases i count l) [
+partition_keys_more keys bs old new b key count e f lasts at here some i l = elim (place_cases i count l) [
   | inl h ↦
       let k = some i h in
       ap (slice_get new) (get_or_append_left bs (b ∷ []) 0 i (rw (e) h)) ∙ lasts (slice_index bs i) k.0 (f i h ∙ k.1) ∙ sym k.1
@@ -108,29 +98,19 @@ get-some [] i h = absurd (omega (arith, h))
 get-some (y ∷ ks) zero h = (y, refl)
 get-some (y ∷ ks) (suc i) h = get-some ks i (omega (arith, h))
 
--- a key that was read is read with one more at the end
-pub push_lasts : (ks : List Key) (x : Key) (j : ℕ) (k : Key) → slice_get ks j ≡ Some k → slice_get (ks ++ x ∷ []) j ≡ Some k
-push_lasts ks x j k e = get-push_before ks x j (slice_get_within ks j k e) ∙ e
-
 push_once : (ks : List Key) (x : Key) → ((a b : ℕ) (k : Key) → slice_get ks a ≡ Some k → slice_get ks b ≡ Some k → a ≡ b)
     → ((j : ℕ) → slice_get ks j ≡ Some x → ⊥) → (a b : ℕ) (k : Key) → slice_get (ks ++ x ∷ []) a ≡ Some k → slice_get (ks ++ x ∷ []) b ≡ Some k → a ≡ b
 push_once ks x o n a b k e q =
-    elim (split a e) [
-      | inl h ↦ elim (split b q) [
-        | inl l ↦ o a b k (sym (get-push_before ks x a h) ∙ e) (sym (get-push_before ks x b l) ∙ q)
-        | inr l ↦ absurd (n a (sym (get-push_before ks x a h) ∙ e ∙ sym (last b l q)))
+    elim (get-push_cases ks x k a e) [
+      | inl h ↦ elim (get-push_cases ks x k b q) [
+        | inl l ↦ o a b k h l
+        | inr l ↦ absurd (n a (h ∙ ap Some l.1))
       ]
-      | inr h ↦ elim (split b q) [
-        | inl l ↦ absurd (n b (sym (get-push_before ks x b l) ∙ q ∙ sym (last a h e)))
-        | inr l ↦ h ∙ sym l
+      | inr h ↦ elim (get-push_cases ks x k b q) [
+        | inl l ↦ absurd (n b (l ∙ ap Some h.1))
+        | inr l ↦ h.0 ∙ sym l.0
       ]
     ]
-  where
-    split : (i : ℕ) → slice_get (ks ++ x ∷ []) i ≡ Some k → (i < length ks) ⊎ (i ≡ length ks)
-    split i z = let w = slice_get_within (ks ++ x ∷ []) i k z in place_cases i (length ks) (omega (arith, w, length-append ks (x ∷ [])))
-
-    last : (i : ℕ) → i ≡ length ks → slice_get (ks ++ x ∷ []) i ≡ Some k → Some x ≡ Some k
-    last i h z = sym (ap (slice_get (ks ++ x ∷ [])) h ∙ get-push_new ks x) ∙ z
 
 -- one more key in its block
 pub partition_more : (keys : List Key) (bs : List ℕ) (old new : List Key) (count : ℕ) (key : Key) (b : ℕ) → IsPartition keys bs old count → count < length keys
@@ -142,7 +122,7 @@ partition_more keys bs old new count key b p h at e here =
           let l : b < blocks_among (slice_index bs) (length bs) = let w = slice_get_within old b key q.1 in rw (p.size, p.number) w in
           record {
             size = length-append bs (b ∷ []) ∙ ap (λ z. z + 1) p.size;
-            key = keys_more keys bs old new b key count p.size p.key (λ j k z. ap (λ ks. slice_get ks j) q.0 ∙ z) at here some;
+            key = partition_keys_more keys bs old new b key count p.size p.key (λ j k z. ap (λ ks. slice_get ks j) q.0 ∙ z) at here some;
             once = subst (λ ks. (a c : ℕ) (k : Key) → slice_get ks a ≡ Some k → slice_get ks c ≡ Some k → a ≡ c) (sym q.0) p.once;
             order = subst (λ n. IsInOrder (slice_index (bs ++ b ∷ [])) (n + 1)) p.size (order_more bs b order (omega (arith, l)));
             number = subst (λ n. blocks_among (slice_index (bs ++ b ∷ [])) (n + 1) ≡ length new) p.size (rw (add-one) (among_old bs b l) ∙ number ∙ ap length (sym q.0));
@@ -151,7 +131,7 @@ partition_more keys bs old new count key b p h at e here =
           let l : b ≡ blocks_among (slice_index bs) (length bs) = q.1 ∙ sym number in
           record {
             size = length-append bs (b ∷ []) ∙ ap (λ z. z + 1) p.size;
-            key = keys_more keys bs old new b key count p.size p.key (λ j k z. ap (λ ks. slice_get ks j) q.0 ∙ push_lasts old key j k z) at here some;
+            key = partition_keys_more keys bs old new b key count p.size p.key (λ j k z. ap (λ ks. slice_get ks j) q.0 ∙ get-push_old old key k j z) at here some;
             once = subst (λ ks. (a c : ℕ) (k : Key) → slice_get ks a ≡ Some k → slice_get ks c ≡ Some k → a ≡ c) (sym q.0) (push_once old key p.once q.2);
             order = subst (λ n. IsInOrder (slice_index (bs ++ b ∷ [])) (n + 1)) p.size (order_more bs b order (omega (arith, l)));
             number = subst (λ n. blocks_among (slice_index (bs ++ b ∷ [])) (n + 1) ≡ length new) p.size
@@ -181,11 +161,6 @@ partition_none keys = record {
 -- no more blocks than keys
 pub partition_few : (keys : List Key) (bs : List ℕ) (kinds : List Key) (count : ℕ) → IsPartition keys bs kinds count → length kinds ≤ count
 partition_few keys bs kinds count p = rw (← p.number) (blocks_are_few (slice_index bs) count)
-
--- a list without items
-pub no_items : (ks : List Key) → length ks ≡ 0 → ks ≡ []
-no_items [] e = refl
-no_items (k ∷ ks) e = absurd (omega (arith, e))
 
 -- an insertion adds at most one key
 pub inserted_few : (ks : List Key) (key : Key) → length (insert_key same_key ks key) ≤ length ks + 1

@@ -12,7 +12,6 @@ use Rattle.minimise.specs.declared.blocks.Key.{Key}
 use Rattle.minimise.specs.Blocks.{IsPartition}
 use Rattle.minimise.specs.Rounds.{IsDivided, IsRelabelled, AreKeys, IsRefined, IsRefining}
 use Rattle.minimise.proofs.BlockLemmas.{within, member, finer_has_more}
-use Rattle.minimise.proofs.PartitionLemmas.{push_lasts}
 use Rattle.minimise.proofs.RoundLemmas.{IsRound, round_divides, round_is_finer}
 use Rattle.minimise.proofs.RowLemmas.{AreRelabelled, GoesByRows, rows_make_round}
 use Rattle.minimise.proofs.QuotientLemmas.{IsQuotient, divided_is_least, quotient_marks}
@@ -22,7 +21,7 @@ use Rattle.automata.specs.Moves.{HaveSameMarks}
 use Rattle.automata.specs.Numbering.{IsNumbered}
 use Rattle.automata.specs.Subautomaton.{IsSubautomaton}
 use Rattle.minimise.specs.Minimal.{IsLeast}
-use Rattle.diagrams.proofs.Table.{get-push_new}
+use Rattle.diagrams.proofs.Table.{get-push_old, get-append_next}
 
 abbrev id_in : Option Key → Id
 id_in None = record { 0 = 0 }
@@ -222,10 +221,10 @@ pub keys_more : (s n : Diagrams) (t : Table) (blocks : List ℕ) (keys : List Ke
 keys_more s n t blocks keys count x id k e m = record {
   size = length-append keys _ ∙ ap (λ z. z + 1) k.size;
   key = λ i l. elim (place_cases i count l) [
-    | inl h ↦ let y = k.key i h in (y.0, push_lasts keys _ i _ y.1, y.2)
+    | inl h ↦ let y = k.key i h in (y.0, get-push_old keys _ _ i y.1, y.2)
     | inr h ↦ (
       id,
-      ap (slice_get (keys ++ record { mark = x; row = id } ∷ [])) (h ∙ sym k.size) ∙ get-push_new keys _ ∙ (λ d. Some (record { mark = (e ∙ ap (mark_of t) (sym h)) d; row = id })),
+      ap (slice_get (keys ++ record { mark = x; row = id } ∷ [])) (h ∙ sym k.size) ∙ get-append_next keys [] _ ∙ (λ d. Some (record { mark = (e ∙ ap (mark_of t) (sym h)) d; row = id })),
       rw (h) m,
     )
   ];
@@ -252,4 +251,4 @@ pub marks_ok : {E : Type 0} (s n after : Diagrams) (t q : Table) (blocks : List 
     → IfOk r (λ u. HaveSameMarks (moves_of after u) (moves_of n q)) → IfOk r (λ u. HaveSameMarks (moves_of after u) (moves_of s t))
 marks_ok s n after t q blocks first last f g k c (Err e) a = tt
 marks_ok s n after t q blocks first last f g k c (Ok u) a = λ w.
-    a w ∙ sym (same_marks s n t q f g first last k.extends.props (λ v o. sym (quotient_marks s.props (moves_of s t) (moves_of n q) (slice_index blocks) (fits_closed s t first f) c v o)) w)
+    a w ∙ sym (same_marks s n t q k.extends.props (λ v o. sym (quotient_marks s.props (moves_of s t) (moves_of n q) (slice_index blocks) (fits_closed s t first f) c v o)) w)

@@ -1,5 +1,5 @@
 -- Why the row and the mark of a location say the verdict there.
-use Rattle.std.proofs.Common.{◌≡◌, ◌≢◌, ℕ, zero, suc, ◌<◌, ◌^◌, ◌==◌, [], ◌∷◌, ◌++◌, true, false, refl, sym, ◌∙◌, ap, subst, arith, inl, inr, ◌⊎◌}
+use Rattle.std.proofs.Common.{◌≡◌, ◌≢◌, ℕ, ◌<◌, ◌^◌, ◌==◌, [], ◌∷◌, ◌++◌, true, false, refl, sym, ◌∙◌, ap, subst, arith, inl, inr, ◌⊎◌}
 use Rattle.std.proofs.lemmas.Bool.{cases_eq}
 use Rattle.forms.specs.Word.{Word, Claim, IsOver}
 use Rattle.forms.specs.Verdict.{Verdict, IsVerdict, PermTrue, PermFalse, TempTrue, TempFalse}
@@ -8,22 +8,14 @@ use Rattle.diagrams.specs.Tree.{Assignment}
 use Rattle.diagrams.specs.Eval.{Diagrams, eval, letter_truth}
 use Rattle.automata.specs.Moves.{Moves, location_after, mark_after}
 use Rattle.automata.specs.Table.{Table, size_of, mark_of, row_of, IsRow, next_of, moves_of}
-use Rattle.automata.proofs.Letters.{spelt, spelt-less, spelt-truth}
+use Rattle.automata.proofs.Letters.{spelt, spelt-less, spelt-truth, agree_or_differ}
 use Rattle.automata.proofs.Words.{over-append, over-cons, over-push, location_after-append, location_after-within}
 use Rattle.minimise.specs.Minimal.{IsLeast}
 use Rattle.monitor.specs.Configuration.{Configuration, IsReady, LeadsTo, IsClaimOf, IsVerdictAfter, IsMovedBy}
 
 -- a function has one value below n, or another somewhere
 pub one_value_or_other : (f : ℕ → ℕ) (x n : ℕ) → ((b : ℕ) → b < n → f b ≡ x) ⊎ ((b : ℕ) × (b < n) × (f b ≢ x))
-one_value_or_other f x zero = inl (λ b h. absurd (omega (arith, h)))
-one_value_or_other f x (suc n) =
-    elim (one_value_or_other f x n) [
-      | inl e ↦ elim (cases_eq (f n) x) [
-        | inl q ↦ inl (λ b h. elim (cases_eq b n) [ inl z ↦ rw (z) q | inr z ↦ e b (omega (arith, h, z)) ])
-        | inr q ↦ inr (n, omega arith, q)
-      ]
-      | inr r ↦ inr (r.0, omega (arith, r.1), r.2)
-    ]
+one_value_or_other f x n = elim (agree_or_differ f (λ _. x) n) [ inl e ↦ inl e | inr r ↦ inr (r.0, r.1, r.2.differ) ]
 
 -- a row that is not the constant leads to another location at some letter
 leads_elsewhere : (s : Diagrams) (size : ℕ) (row : Id) → IsRow s size row → (at : ℕ) → (((a : Assignment) → eval s row a ≡ at) → ⊥)

@@ -1,13 +1,12 @@
 -- A monitor as its store grows.
-use Rattle.std.proofs.Common.{◌<◌, ◌==◌, ℕ, sym, ◌∙◌, ap, subst}
-use Rattle.forms.specs.Word.{Word, Claim, IsOver}
+use Rattle.std.proofs.Common.{◌<◌, ℕ, sym, ◌∙◌, subst}
 use Rattle.diagrams.specs.Eval.{Diagrams}
 use Rattle.diagrams.specs.Live.{Keeps}
 use Rattle.automata.specs.Moves.{IsReached, AreDistinguished}
 use Rattle.automata.specs.Table.{Table, size_of, Fits, moves_of}
 use Rattle.automata.proofs.Lasts.{fits_lasts, next_of-lasts, location_after-lasts, mark_after-lasts}
 use Rattle.minimise.specs.Minimal.{IsLeast}
-use Rattle.monitor.specs.Configuration.{Configuration, IsReady, LeadsTo, IsClaimOf}
+use Rattle.monitor.specs.Configuration.{Configuration, IsReady}
 
 reached_lasts : (s n : Diagrams) → Keeps s n → (t : Table) → Fits s t → t.first < size_of t → (at : ℕ)
     → IsReached s.props (moves_of s t) at → IsReached s.props (moves_of n t) at
@@ -44,12 +43,3 @@ ready_lasts s n k m r = record {
   least = least_lasts s n k m.automaton r.fits r.least;
   within = r.within;
 }
-
--- a word that leads to the location still does
-pub leads_lasts : (s n : Diagrams) → Keeps s n → (m : Configuration) → IsReady s m → (w : Word) → LeadsTo s m w → LeadsTo n m w
-leads_lasts s n k m r w e = location_after-lasts s n k m.automaton r.fits m.automaton.first w r.least.closed.first ∙ e
-
--- the automaton's claim stays its claim
-pub claim_lasts : (s n : Diagrams) → Keeps s n → (t : Table) → Fits s t → t.first < size_of t → (f : Claim) → IsClaimOf s t f → IsClaimOf n t f
-claim_lasts s n k t fits first f c w o =
-    c w (subst (λ p. IsOver p w) k.extends.props o) ∙ ap (λ x. x == 1) (sym (mark_after-lasts s n k t fits t.first w first))

@@ -21,6 +21,7 @@ use Rattle.std.proofs.lemmas.Bool.{cases_Bool}
 use Rattle.diagrams.proofs.Composed.{lo_over, hi_over, top_over}
 use Rattle.diagrams.proofs.Kept.{kept_weaker}
 use Rattle.diagrams.proofs.Transformed.{down}
+use Rattle.diagrams.proofs.Windows.{if_below}
 use Rattle.automata.specs.Table.{IsRow}
 use Rattle.automata.proofs.Lasts.{row_lasts}
 use Rattle.obligations.specs.Value.{IsClaim, IsBody}
@@ -166,10 +167,6 @@ cuts_node s n m k j count claims all v f lo hi low high row e small x y t =
           ) refl) ∙ sym (t.value b);
     }
   where
-    if_below : (b : Bool) (x y n : ℕ) → x < n → y < n → (if b then x else y) < n
-    if_below true x y n h k = h
-    if_below false x y n h k = k
-
     if_left : (g : ℕ → ℕ) (b : Bool) (x y p q : ℕ) → g x ≡ p → g y ≡ q → g (if b then x else y) ≡ (if b then p else q)
     if_left g true x y p q h k = h
     if_left g false x y p q h k = k

@@ -32,7 +32,7 @@ use Rattle.obligations.specs.Inclusion.{AllBelow, all_later}
 use Rattle.obligations.specs.Entered.{Asks, AllAsk, AllAreLater, entered_value, Enters, IsEntered}
 use Rattle.obligations.proofs.Holds.{claim_lasts}
 use Rattle.obligations.proofs.Cuts.{lo_depends, hi_depends}
-use Rattle.diagrams.proofs.Literals.{number_small}
+use Rattle.diagrams.proofs.Literals.{number_small, number_one, min-and}
 
 -- a place before the end of a longer list, but not before that of the shorter, is the last
 pub last_place : (at count : ℕ) → at < count + 1 → nat_lt at count ≡ false → count ≡ at
@@ -59,12 +59,7 @@ can_ask s m k base size v ats next whole l x a =
     (rw (l.value a) (number_small (a v)), rw (eval-lasts s m k.was k.now k.extends whole x.claim.live a) (x.claim.truth a))
 
 and_one : (b : Bool) (w : ℕ) → w < 2 → (min (if b then 1 else 0) w == 1) ≡ (b && (w == 1))
-and_one true zero h = refl
-and_one true (suc zero) h = refl
-and_one true (suc (suc w)) h = absurd (omega arith)
-and_one false zero h = refl
-and_one false (suc zero) h = refl
-and_one false (suc (suc w)) h = absurd (omega arith)
+and_one b w h = min-and (if b then 1 else 0) w (number_small b) h ∙ ap (λ x. x && (w == 1)) (number_one b)
 
 -- one location more is asked for
 pub asks_next : (s m n : Diagrams) → Keeps s m → Keeps m n → (base size v at : ℕ) (ats : List ℕ) (next whole id : Id) → at < size → v ≡ s.props + (base + at)
@@ -87,11 +82,6 @@ asks_next s m n k j base size v at ats next whole id h e l x y =
           ∙ and_one (a v) (eval s whole a) (x.claim.truth a)
           ∙ (rw (x.value a, all_later-lasts s n p base a ats, p, e) refl);
     }
-
--- no locations are left at the end of a list
-pub drop_whole : (xs : List ℕ) → drop (length xs) xs ≡ []
-drop_whole [] = refl
-drop_whole (x ∷ xs) = drop_whole xs
 
 -- a list from one place earlier on
 pub drop_back : (k : ℕ) (xs : List ℕ) → 0 < k → k ≤ length xs → drop (k - 1) xs ≡ slice_index_or xs (k - 1) 0 ∷ drop k xs

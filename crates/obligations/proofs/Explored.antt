@@ -15,7 +15,7 @@ use Rattle.diagrams.proofs.Transformed.{down}
 use Rattle.automata.proofs.Lasts.{row_lasts}
 use Rattle.obligations.specs.declared.cells.Obligation.{Obligation}
 use Rattle.obligations.specs.Table.{ends_of, body_of}
-use Rattle.obligations.specs.Value.{by_values, IsClaim, IsBody, FitsCells}
+use Rattle.obligations.specs.Value.{by_values, IsClaim, FitsCells}
 use Rattle.obligations.specs.Located.{Grows, AllClaims, Cuts, IsLocated, HasBodies, by_bodies}
 use Rattle.obligations.proofs.Holds.{claim_lasts, by_values-obligations}
 use Rattle.obligations.proofs.Cuts.{row_grown, item-grown}
@@ -59,21 +59,6 @@ bodies_truth s c bodies f b k h =
     let l : k < length c = rw b.count at h in
     let body = f k l in
     rw (b.each k l) (record { live = body.live; truth = body.truth })
-
--- what a claim composes to is a body
-pub whole_body : (s n : Diagrams) → Keeps s n → (c : List Obligation) (bodies : List Id) → FitsCells s c → HasBodies c bodies → (claim whole : Id) → IsClaim s (length c) claim → Composes s n bodies claim whole → IsBody n (length c) whole
-whole_body s n k c bodies f b claim whole q m = record {
-  live = m.live;
-  over = λ x y same.
-      m.value x
-      ∙ q.over (replaced s bodies x) (replaced s bodies y) (λ v h.
-      let j = v - s.props in
-      let l = below_count s.props (length c) v h in
-      let e : eval s (body_of c j) x ≡ eval s (body_of c j) y = (f j l).over x y (λ w i. same w (rw k.extends.props i)) in
-      replaced-bodies s c bodies b x v h ∙ ap (λ z. z == 1) e ∙ sym (replaced-bodies s c bodies b y v h))
-      ∙ sym (m.value y);
-  truth = λ x. rw (m.value x) (q.truth (replaced s bodies x));
-}
 
 -- the row that is cut from what a claim composes to
 pub located_cut : (s0 s1 s2 : Diagrams) → Keeps s0 s1 → Keeps s1 s2 → (c : List Obligation) (bodies : List Id) → FitsCells s0 c → HasBodies c bodies → (claims : List Id) (claim whole row : Id) (mark : ℕ)

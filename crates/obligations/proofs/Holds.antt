@@ -1,5 +1,5 @@
 -- The location after a word has the mark of what its diagram over obligations says of the rest.
-use Rattle.std.proofs.Common.{◌≡◌, ℕ, ◌<◌, ◌≤◌, ◌+◌, ◌-◌, Bool, true, false, List, [], ◌∷◌, length, refl, sym, ◌∙◌, ap, arith}
+use Rattle.std.proofs.Common.{◌≡◌, ℕ, ◌<◌, ◌≤◌, ◌+◌, ◌-◌, Bool, false, List, [], ◌∷◌, length, refl, sym, ◌∙◌, ap, arith}
 use Rattle.std.specs.Prelude.{nat_lt, ◌==◌}
 use Rattle.diagrams.specs.declared.top.Id.{Id}
 use Rattle.diagrams.specs.Tree.{Assignment}
@@ -16,26 +16,20 @@ use Rattle.diagrams.specs.Eval.{id_at}
 use Rattle.diagrams.proofs.DependsLemmas.{DependsOn-lasts}
 use Rattle.diagrams.proofs.Meaning.{eval-lasts, live_lasts}
 use Rattle.diagrams.specs.Composed.{IsObligation}
-use Rattle.std.proofs.lemmas.Bool.{cases_Bool}
+use Rattle.std.proofs.lemmas.Bool.{cases_Bool, lt-ltb, le-ltb}
 use Rattle.std.proofs.Common.{inl, inr}
-
-lt_true : (v p : ℕ) → v < p → nat_lt v p ≡ true
-lt_true v p h = grind (arith, nat_tests)
-
-lt_false : (v p : ℕ) → p ≤ v → nat_lt v p ≡ false
-lt_false v p h = grind (arith, nat_tests)
 
 -- obligations have one value beside a letter and alone
 pub joint-obligations : (p letter : ℕ) (values : ℕ → Bool) (v : ℕ) → p ≤ v → joint p letter values v ≡ values (v - p)
-joint-obligations p letter values v h = rw (lt_false v p h) refl
+joint-obligations p letter values v h = rw (le-ltb v p h) refl
 
 -- propositions are those of the letter
 pub joint-letter : (p letter : ℕ) (values : ℕ → Bool) (v : ℕ) → v < p → joint p letter values v ≡ letter_truth p letter v
-joint-letter p letter values v h = rw (lt_true v p h) refl
+joint-letter p letter values v h = rw (lt-ltb v p h) refl
 
 -- obligations have the values given
 pub by_values-obligations : (p : ℕ) (values : ℕ → Bool) (v : ℕ) → p ≤ v → by_values p values v ≡ values (v - p)
-by_values-obligations p values v h = rw (lt_false v p h) refl
+by_values-obligations p values v h = rw (le-ltb v p h) refl
 
 -- what a claim says of a letter before a word is what is left of it says of the word
 pub after_letter : (s : Diagrams) (c : List Obligation) (claims : List Id) (claim row : Id) → IsClaim s (length c) claim → LeadsToRest s c claims claim row

@@ -2,6 +2,7 @@
 use Rattle.std.proofs.Common.{◌≡◌, ℕ, ◌<◌, ◌-◌, ◌^◌, ◌++◌, cond, List, [], ◌∷◌, length, length-append, refl, sym, ◌∙◌, arith, inl, inr, Some}
 use Rattle.std.specs.HashMap as hash
 use Rattle.std.proofs.lemmas.List.{get_or_append_left, get_or_at}
+use Rattle.std.proofs.lemmas.Option.{same_Some}
 use Rattle.diagrams.specs.declared.top.Id.{Id}
 use Rattle.diagrams.specs.Eval.{id_at}
 use Rattle.diagrams.specs.Transformed.{same_id}
@@ -35,7 +36,7 @@ numbered_insert a b claim at n few e place up = record {
   found = λ i k q.
       elim (cases_Bool (same_id claim i)) [
         | inl t ↦
-            let value : at ≡ k = some_number at k (sym (rw t at (up i)) ∙ q) in
+            let value : at ≡ k = same_Some at k (sym (rw t at (up i)) ∙ q) in
             let same : claim ≡ i = id_true claim i t in
             (rw (e, length-append) (omega arith), rw e (rw (← value, place, ← same) (id_at-last a.claims.items claim)))
         | inr t ↦
@@ -44,9 +45,6 @@ numbered_insert a b claim at n few e place up = record {
             (rw (e, length-append) (omega arith), rw e (id_at-append a.claims.items claim k l ∙ old.1))
       ];
 }
-  where
-    some_number : (x y : ℕ) → Some x ≡ Some y → x ≡ y
-    some_number x y e = cc
 
 -- nothing has changed
 pub numbered_same : (a b : Inside) → HasRightNumbers a → b.claims.items ≡ a.claims.items → ((i : Id) → hash.get same_id b.numbers i ≡ hash.get same_id a.numbers i) → HasRightNumbers b

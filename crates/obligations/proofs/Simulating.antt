@@ -1,12 +1,10 @@
 -- Relations that rows and marks keep, and the lists that are made of them.
-use Rattle.std.proofs.Common.{◌≡◌, ℕ, zero, suc, ◌<◌, ◌≤◌, ◌+◌, ◌-◌, ◌++◌, Bool, true, false, if◌then◌else◌, List, [], ◌∷◌, length, map, refl, sym, ◌∙◌, ap, arith, inl, inr, eq-eqb, Some, Result, IfOk}
+use Rattle.std.proofs.Common.{◌≡◌, ℕ, zero, suc, ◌<◌, ◌≤◌, ◌+◌, ◌-◌, ◌++◌, Bool, true, false, if◌then◌else◌, List, [], ◌∷◌, length, refl, sym, ◌∙◌, ap, arith, inl, inr, eq-eqb, Some, Result, IfOk}
 use Rattle.std.specs.Prelude.{nat_lt, ◌==◌, slice_index_or, Contains}
-use Rattle.std.specs.HashSet as set
 use Rattle.std.specs.HashSet.{HashSet}
 use Rattle.std.proofs.lemmas.Bool.Decides.{nat_tests}
 use Rattle.std.proofs.lemmas.Result.{IfOk-weaker}
 use Rattle.std.proofs.lemmas.List.Elements.{Contains-append_left, Contains-push}
-use Rattle.std.proofs.lemmas.List.{get_or_append_left, get_or_at, length-map, map-append}
 use Rattle.diagrams.specs.declared.top.Id.{Id}
 use Rattle.diagrams.specs.declared.top.Look.TheVariants.{Terminal}
 use Rattle.diagrams.specs.Tree.{put}
@@ -19,7 +17,6 @@ use Rattle.diagrams.proofs.Works.{id_true}
 use Rattle.automata.specs.Table.{Table, size_of, mark_of, row_of, next_of}
 use Rattle.obligations.specs.declared.simulation.Compared.{Compared}
 use Rattle.obligations.specs.Inclusion.{accepts_from, all_accept, AllBelow, AllSimulate, IsSimulation}
-use Rattle.obligations.specs.Followed.{wider_of}
 use Rattle.obligations.specs.Related.{Pairs, related, LeadsBelow, LeadsWithin, same_compared, IsKnown, IsNoted, AreSimulated, or_same, AreSimulators, AcceptsAll, IsWiderAt}
 use Rattle.obligations.proofs.InclusionLemmas.{all_simulate}
 use Rattle.obligations.proofs.Entering.{last_place}
@@ -49,10 +46,6 @@ leads_parts s R v f fl fh g gl gh p q low high a =
     rw (p.splits a, q.splits a) (if_related R (a v) (eval s fh a) (eval s fl a) (eval s gh a) (eval s gl a) (high a) (low a))
 
 module _ {S : Type 0} where
-  -- nothing is known at first
-  pub known_none : (s : Diagrams) (R : ℕ → ℕ → Bool) (known : HashSet Compared S) → set.IsEmpty known → IsKnown s R known
-  known_none s R known n pair e = let h = rw n at e in absurd (cc)
-
   -- one pair more is known
   pub known_next : (s : Diagrams) (R : ℕ → ℕ → Bool) (old new : HashSet Compared S) (f g : Id) → IsKnown s R old → LeadsWithin s R f g → IsNoted old new (record { lower = f; upper = g }) → IsKnown s R new
   known_next s R old new f g known leads noted pair h =
@@ -65,10 +58,6 @@ module _ {S : Type 0} where
             rw (← p, ← q) leads
         | inr n ↦ let up = noted pair in known pair (sym (rw n at up) ∙ h)
       ]
-
-  -- the same pairs are known
-  pub known_same : (s : Diagrams) (R : ℕ → ℕ → Bool) (old new : HashSet Compared S) → ((other : Compared) → set.contains same_compared new other ≡ set.contains same_compared old other) → IsKnown s R old → IsKnown s R new
-  known_same s R old new same known pair h = known pair (sym (same pair) ∙ h)
 
 -- those of one location more are
 pub rounds_next : (s : Diagrams) (t : Table) (r q : Pairs) (x : ℕ) → 0 < x → q ≡ r → ((y : ℕ) → x ≤ y → y < size_of t → AreSimulated s t (related r) y (size_of t))
@@ -130,21 +119,6 @@ accepts_all_at s t at e m [] = m
 accepts_all_at s t at e m (letter ∷ w) =
     let to : next_of s t at letter ≡ at = eval-terminal s (row_of t at) at e (letter_truth s.props letter) in
     ap (λ x. accepts_from s t x w) to ∙ accepts_all_at s t at e m w
-
--- one list more
-pub lists_next : {X : Type 0} (view : X → List ℕ) (P : ℕ → List ℕ → Type 0) (lists : List X) (count : ℕ) (x : X) → length lists ≡ count
-    → ((k : ℕ) → k < count → P k (wider_of (map view lists) k)) → P count (view x) → (k : ℕ) → k < count + 1 → P k (wider_of (map view (lists ++ x ∷ [])) k)
-lists_next view P lists count x e all here k h =
-    let l : length (map view lists) ≡ count = length-map lists view ∙ e in
-    rw (map-append view lists (x ∷ []))
-    (elim (cases_Bool (nat_lt k count)) [
-      | inl u ↦
-          let q : k < count = grind (arith, nat_tests) in
-          rw (get_or_append_left (map view lists) (view x ∷ []) [] k (omega arith)) (all k q)
-      | inr u ↦
-          let q : count ≡ k = last_place k count h u in
-          rw (get_or_at (map view lists) (view x) [] [] k (omega arith), ← q) here
-    ])
 
 -- one location more in a list
 pub below_push : (size : ℕ) (list : List ℕ) (y : ℕ) → AllBelow size list → y < size → AllBelow size (list ++ y ∷ [])

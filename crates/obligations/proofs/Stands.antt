@@ -1,6 +1,6 @@
 -- Tables of obligations to which those of locations are added.
-use Rattle.std.proofs.Common.{◌≡◌, ℕ, ◌<◌, ◌+◌, true, false, List, [], ◌∷◌, length, refl, sym, ◌∙◌, ap, arith, inl, inr}
-use Rattle.std.specs.Prelude.{nat_lt, ◌==◌, ◌≢◌, slice_index_or, slice_set}
+use Rattle.std.proofs.Common.{◌≡◌, ℕ, ◌<◌, ◌+◌, List, [], ◌∷◌, length, refl, sym, ◌∙◌, ap, arith, inl, inr}
+use Rattle.std.specs.Prelude.{nat_lt, ◌==◌, slice_index_or, slice_set}
 use Rattle.std.proofs.lemmas.Bool.Decides.{nat_tests}
 use Rattle.std.proofs.lemmas.List.{get_or-set_same, get_or-set_other, length-set}
 use Rattle.diagrams.specs.declared.top.Id.{Id}
@@ -8,7 +8,7 @@ use Rattle.diagrams.specs.Eval.{Diagrams, eval}
 use Rattle.diagrams.specs.Live.{Keeps}
 use Rattle.diagrams.specs.Eval.{id_at}
 use Rattle.diagrams.proofs.Meaning.{eval-lasts, Keeps_trans, means_lasts}
-use Rattle.std.proofs.lemmas.Bool.{cases_Bool}
+use Rattle.std.proofs.lemmas.Bool.{cases_Bool, eqb-false}
 use Rattle.automata.specs.Table.{Table, size_of, row_of, Fits}
 use Rattle.automata.proofs.Lasts.{fits_lasts, mark_after-lasts}
 use Rattle.obligations.specs.declared.cells.Obligation.{Obligation}
@@ -16,15 +16,15 @@ use Rattle.obligations.specs.Table.{missing, ends_of, body_of, with_body}
 use Rattle.obligations.specs.Value.{IsBody, FitsCells}
 use Rattle.obligations.specs.Located.{AllClaims}
 use Rattle.obligations.specs.Inclusion.{accepts_from, all_later, all_accept, AllBelow, Follows, IsWider}
-use Rattle.obligations.specs.Followed.{HasFrom, GoesOn, StandsFor}
+use Rattle.obligations.specs.Followed.{HasFrom, StandsFor}
 use Rattle.obligations.specs.Entered.{AllAsk, AllAreLater, entered_value, Enters, HasEnds, HasOtherBodies, AllEnter}
 use Rattle.obligations.proofs.Holds.{body_lasts}
 use Rattle.obligations.proofs.InclusionLemmas.{cell-location}
 use Rattle.obligations.proofs.Entering.{all_later-lasts, claims_later, entered_now, enters_body, last_place}
 
--- a table goes on as itself
-pub goes_on_refl : (c : List Obligation) → GoesOn c c
-goes_on_refl c = record { longer = omega arith; same = λ j h l. refl }
+-- a table has its own obligations
+pub from_refl : (f : ℕ) (c : List Obligation) → HasFrom f c c
+from_refl f c = record { longer = omega arith; same = λ j h l. refl }
 
 -- no location has its end value yet
 pub ends_none : (c : List Obligation) (t : Table) → HasEnds c t (length c) 0
@@ -36,9 +36,6 @@ pub record IsSetting (s0 s : Diagrams) (c d : List Obligation) (t : Table) (base
   pub fits : FitsCells s d
   pub others : HasOtherBodies base c d
   pub bodies : AllEnter s d t base items count
-
-apart : (i j : ℕ) → (i == j) ≡ false → i ≢ j
-apart i j t e = let h : (i == j) ≡ true = rw e (grind (arith, nat_tests)) in absurd (cc)
 
 -- what was entered in the store before is so in the grown store
 enters_last : (s n : Diagrams) → Keeps s n → (items : List Id) → AllAreLater s items → (t : Table) → Fits s t → length items ≡ size_of t → (at : ℕ) → at < size_of t → (id : Id)
@@ -69,7 +66,7 @@ setting_next s0 s n c d t base items count body x k f e number h claims0 claims 
                 let g : i ≡ j = grind (arith, nat_tests) in
                 rw (g, ap (λ v. v.body) there, size, dc) is_body
             | inr u ↦
-                let g : slice_index_or (slice_set d j new) i missing ≡ slice_index_or d i missing = get_or-set_other d j i new missing (apart i j u) in
+                let g : slice_index_or (slice_set d j new) i missing ≡ slice_index_or d i missing = get_or-set_other d j i new missing (eqb-false i j u) in
                 rw (ap (λ v. v.body) g, size) (body_lasts s n k (length d) (body_of d i) (x.fits i (omega arith)))
           ];
       others = record {
@@ -79,7 +76,7 @@ setting_next s0 s n c d t base items count body x k f e number h claims0 claims 
               | inl u ↦
                   let g : i ≡ j = grind (arith, nat_tests) in
                   rw g (ap (λ v. v.ends) there ∙ x.others.ends j)
-              | inr u ↦ ap (λ v. v.ends) (get_or-set_other d j i new missing (apart i j u)) ∙ x.others.ends i
+              | inr u ↦ ap (λ v. v.ends) (get_or-set_other d j i new missing (eqb-false i j u)) ∙ x.others.ends i
             ];
         before = λ i q. get_or-set_other d j i new missing (λ z. absurd (omega arith)) ∙ x.others.before i q;
       };

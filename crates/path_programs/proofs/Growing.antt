@@ -1,9 +1,9 @@
 -- Stores and tables that go on.
-use Rattle.std.proofs.Common.{◌≡◌, ℕ, ◌<◌, ◌≤◌, ◌+◌, ◌++◌, true, List, [], ◌∷◌, length, length-append, refl, sym, ◌∙◌, ap, subst, arith, inl, inr}
+use Rattle.std.proofs.Common.{◌≡◌, ℕ, ◌<◌, ◌≤◌, ◌+◌, ◌++◌, true, List, [], ◌∷◌, length, refl, sym, ◌∙◌, ap, subst, arith, inl, inr}
 use Rattle.std.specs.Prelude.{nat_lt, ◌==◌, slice_index_or}
 use Rattle.std.proofs.lemmas.Bool.{eqb-true, eq-eqb}
 use Rattle.std.proofs.lemmas.Bool.Decides.{nat_tests}
-use Rattle.std.proofs.lemmas.List.{get_or_append_left, get_or_at, get_or-set_same, get_or-set_other, length-set}
+use Rattle.std.proofs.lemmas.List.{get_or_append_left, get_or_at, get_or-set_same, get_or-set_other, length-set, length_push}
 use Rattle.diagrams.specs.declared.top.Id.{Id}
 use Rattle.diagrams.specs.Eval.{Diagrams}
 use Rattle.diagrams.specs.Live.{Keeps}
@@ -14,11 +14,8 @@ use Rattle.obligations.specs.Table.{missing, ends_of, body_of, with_body}
 use Rattle.obligations.specs.Value.{IsBody, FitsCells}
 use Rattle.obligations.specs.Followed.{HasFrom, GoesOn}
 use Rattle.obligations.proofs.Holds.{fits_cells_lasts, body_wider}
+use Rattle.obligations.proofs.Stands.{from_refl}
 use Rattle.path_programs.specs.Growth.{HasGrown}
-
--- a table has its own obligations
-pub from_refl : (f : ℕ) (c : List Obligation) → HasFrom f c c
-from_refl f c = record { longer = omega arith; same = λ j h l. refl }
 
 -- from a later one on
 pub from_later : (f g : ℕ) (c d : List Obligation) → f ≤ g → HasFrom f c d → HasFrom g c d
@@ -55,18 +52,14 @@ entry-old c o j h = get_or_append_left c (o ∷ []) _ j h
 pub entry-new : (c : List Obligation) (o : Obligation) → slice_index_or (c ++ o ∷ []) (length c) missing ≡ o
 entry-new c o = get_or_at c o [] _ (length c) refl
 
--- one more
-pub more-one : (c : List Obligation) (o : Obligation) → length (c ++ o ∷ []) ≡ length c + 1
-more-one c o = rw length-append refl
-
 -- a table goes on with an obligation at its end
 pub goes_on_add : (c : List Obligation) (o : Obligation) → GoesOn c (c ++ o ∷ [])
-goes_on_add c o = record { longer = rw (more-one c o) (omega arith); same = λ j h l. entry-old c o j l }
+goes_on_add c o = record { longer = rw (length_push c o) (omega arith); same = λ j h l. entry-old c o j l }
 
 -- a table fits with one obligation more, whose body may ask for that obligation too
 pub fits_add : (s : Diagrams) (c : List Obligation) (o : Obligation) → FitsCells s c → IsBody s (length c + 1) o.body → FitsCells s (c ++ o ∷ [])
 fits_add s c o f b j h =
-    let e : length (c ++ o ∷ []) ≡ length c + 1 = more-one c o in
+    let e : length (c ++ o ∷ []) ≡ length c + 1 = length_push c o in
     let P : Obligation → Type 0 = λ x. IsBody s (length (c ++ o ∷ [])) x.body in
     elim (cases_Bool (nat_lt j (length c))) [
       | inl t ↦

@@ -12,27 +12,10 @@ use Rattle.diagrams.specs.Composed.{IsObligation}
 use Rattle.diagrams.proofs.Meaning.{eval-lasts, is_one-lasts, live_lasts}
 use Rattle.obligations.specs.Value.{IsClaim, IsBody}
 use Rattle.path_programs.specs.Made.{IsOneWhere}
-use Rattle.diagrams.proofs.Literals.{number_small, literal_small, literal_one}
+use Rattle.diagrams.proofs.Literals.{number_small, min-and, max-or, literal_small, literal_one}
 
-min-and : (x y : ℕ) → x < 2 → y < 2 → (min x y == 1) ≡ (x == 1 && y == 1)
-min-and zero zero h k = refl
-min-and zero (suc zero) h k = refl
-min-and zero (suc (suc y)) h k = absurd (omega arith)
-min-and (suc zero) zero h k = refl
-min-and (suc zero) (suc zero) h k = refl
-min-and (suc zero) (suc (suc y)) h k = absurd (omega arith)
-min-and (suc (suc x)) y h k = absurd (omega arith)
-
-max-or : (x y : ℕ) → x < 2 → y < 2 → (max x y == 1) ≡ (x == 1 || y == 1)
-max-or zero zero h k = refl
-max-or zero (suc zero) h k = refl
-max-or zero (suc (suc y)) h k = absurd (omega arith)
-max-or (suc zero) zero h k = refl
-max-or (suc zero) (suc zero) h k = refl
-max-or (suc zero) (suc (suc y)) h k = absurd (omega arith)
-max-or (suc (suc x)) y h k = absurd (omega arith)
-
-equal-agree : (x y : ℕ) → x < 2 → y < 2 → ((if x == y then 1 else 0) == 1) ≡ agree (x == 1) (y == 1)
+-- one number of a truth value is another where the values agree
+pub equal-agree : (x y : ℕ) → x < 2 → y < 2 → ((if x == y then 1 else 0) == 1) ≡ agree (x == 1) (y == 1)
 equal-agree zero zero h k = refl
 equal-agree zero (suc zero) h k = refl
 equal-agree zero (suc (suc y)) h k = absurd (omega arith)

@@ -1,6 +1,7 @@
 -- What the first of two paths, and a turn of a star, goes on to.
 use Rattle.std.proofs.Common.{◌≡◌, ℕ, ◌<◌, ◌≤◌, ◌+◌, ◌++◌, Bool, true, false, List, [], ◌∷◌, length, refl, sym, ◌∙◌, ap, arith}
 use Rattle.std.specs.Prelude.{◌&&◌, ◌||◌, slice_index_or}
+use Rattle.std.proofs.lemmas.List.{length_push}
 use Rattle.forms.specs.Word.{Word, Claim}
 use Rattle.forms.specs.Paths.{WordRelation, reaches_further, reaches}
 use Rattle.forms.proofs.Further.{reaches-split}
@@ -17,7 +18,7 @@ use Rattle.path_programs.specs.declared.lead.Lead.{Lead}
 use Rattle.path_programs.specs.Made.{IsOneWhere}
 use Rattle.path_programs.specs.Lead.{Leads, IsRest}
 use Rattle.path_programs.proofs.Making.{one_same, one_lasts, one_claim, claim_same}
-use Rattle.path_programs.proofs.Growing.{entry-old, entry-new, more-one}
+use Rattle.path_programs.proofs.Growing.{entry-old, entry-new}
 use Rattle.path_programs.proofs.Leads.{IsKept, cell-further, cell-reaches}
 
 -- an obligation that is asked of the next position has its value there
@@ -33,8 +34,8 @@ holds-literal s n k d j id o w =
     (one_lasts s n k id (λ a. a (s.props + j)) o).value (by_values n.props (cell n d w)) ∙ asked s.props n k.extends.props d w j
 
 -- a literal is a claim
-pub literal_claim : (n : Diagrams) (j count : ℕ) (id : Id) → j < count → IsOneWhere n id (λ a. a (n.props + j)) → IsClaim n count id
-literal_claim n j count id h o = one_claim n id (λ a. a (n.props + j)) count o (λ a b same. same (n.props + j) (omega arith, omega arith))
+pub one_literal_claim : (n : Diagrams) (j count : ℕ) (id : Id) → j < count → IsOneWhere n id (λ a. a (n.props + j)) → IsClaim n count id
+one_literal_claim n j count id h o = one_claim n id (λ a. a (n.props + j)) count o (λ a b same. same (n.props + j) (omega arith, omega arith))
 
 -- the claim over two obligations and what comes later, where a diagram is
 pub rest_says : (s0 s1 s2 s3 s4 : Diagrams) → Keeps s0 s1 → Keeps s1 s2 → Keeps s2 s3 → Keeps s3 s4 → (i j : ℕ) (later fi fj then next : Id) → IsLive s0 later
@@ -121,7 +122,7 @@ again_claim s n k j count old later next hj ho c o =
 -- a lead is kept in the two obligations that were added for it
 pub kept_two : (c d e : List Obligation) (l : Lead) → d ≡ c ++ record { ends = false; body = l.further } ∷ [] → e ≡ d ++ record { ends = l.ends; body = l.stays } ∷ [] → IsKept e l (length c) (length c + 1)
 kept_two c d e l p q =
-    let n : length d ≡ length c + 1 = rw p (more-one c _) in
+    let n : length d ≡ length c + 1 = rw p (length_push c _) in
     let less : length c < length d = omega arith in
     let first : slice_index_or e (length c) missing ≡ record { ends = false; body = l.further } = rw q (entry-old d _ (length c) less ∙ rw p (entry-new c _)) in
     let second : slice_index_or e (length c + 1) missing ≡ record { ends = l.ends; body = l.stays } = ap (λ i. slice_index_or e i missing) (sym n) ∙ rw q (entry-new d _) in
@@ -134,7 +135,7 @@ kept_two c d e l p q =
 
 -- how many there are after one was added
 pub length-one : (c d : List Obligation) (o : Obligation) → d ≡ c ++ o ∷ [] → length d ≡ length c + 1
-length-one c d o p = rw p (more-one c o)
+length-one c d o p = rw p (length_push c o)
 
 -- the one that was added
 pub last-one : (c d : List Obligation) (o : Obligation) → d ≡ c ++ o ∷ [] → slice_index_or d (length c) missing ≡ o

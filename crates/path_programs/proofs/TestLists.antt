@@ -11,9 +11,9 @@ use Rattle.automata.proofs.Lasts.{fits_lasts, meant_lasts}
 use Rattle.path_programs.specs.PathTests.{test_forms, test_count, IsTestAt, HasTests}
 
 -- they stay those as a store grows
-pub tests_last : (s n : Diagrams) → Keeps s n → (tests : List Meant) (count : ℕ) (x : Program) → HasTests s tests count x → HasTests n tests count x
-tests_last s n k tests count (Step f) h = tt
-tests_last s n k tests count (Test f) h = (
+pub has_tests_last : (s n : Diagrams) → Keeps s n → (tests : List Meant) (count : ℕ) (x : Program) → HasTests s tests count x → HasTests n tests count x
+has_tests_last s n k tests count (Step f) h = tt
+has_tests_last s n k tests count (Test f) h = (
   h.0,
   record {
     within = h.1.within;
@@ -21,9 +21,9 @@ tests_last s n k tests count (Test f) h = (
     meant = λ d l. meant_lasts s n k (slice_index_or tests (count - 1) d).automaton f l (h.1.meant d l);
   },
 )
-tests_last s n k tests count (Choice p q) h = (tests_last s n k tests count q h.0, tests_last s n k tests (count - test_count q) p h.1)
-tests_last s n k tests count (Seq p q) h = (tests_last s n k tests count q h.0, tests_last s n k tests (count - test_count q) p h.1)
-tests_last s n k tests count (Star p) h = tests_last s n k tests count p h
+has_tests_last s n k tests count (Choice p q) h = (has_tests_last s n k tests count q h.0, has_tests_last s n k tests (count - test_count q) p h.1)
+has_tests_last s n k tests count (Seq p q) h = (has_tests_last s n k tests count q h.0, has_tests_last s n k tests (count - test_count q) p h.1)
+has_tests_last s n k tests count (Star p) h = has_tests_last s n k tests count p h
 
 -- as many as are counted
 pub length-forms : (x : Program) → length (test_forms x) ≡ test_count x

@@ -8,6 +8,7 @@ use Rattle.forms.specs.Tree.{Formula}
 use Rattle.forms.specs.Parts.{parts, part}
 use Rattle.forms.specs.Satisfaction.{sat, meets}
 use Rattle.forms.specs.Equivalence.{HasClassCount}
+use Rattle.diagrams.proofs.Table.{get-append, get-append_next}
 use Rattle.minimise.proofs.Once.{class_count_is_one}
 use Rattle.translate.specs.Counting.{IfTooMany, claim_of, HasCount, AreCounts, IsWithin, IsFirstOver, FirstOverIsOne, FirstOverIsNotWithin}
 use Rattle.translate.specs.declared.fault.TranslateFault.{TranslateFault}
@@ -62,17 +63,6 @@ zipped p limit (f ∷ fs) [] h k l = absurd h
 zipped p limit (f ∷ fs) (n ∷ ns) h zero l = (f, refl, h.0)
 zipped p limit (f ∷ fs) (n ∷ ns) h (suc k) l = zipped p limit fs ns h.1 k (omega arith)
 
--- an item before the end of the first of two lists is its item
-pub slice_get-before : (xs ys : List Formula) (k : ℕ) → k < length xs → slice_get (xs ++ ys) k ≡ slice_get xs k
-slice_get-before [] ys k h = absurd (omega arith)
-slice_get-before (x ∷ xs) ys zero h = refl
-slice_get-before (x ∷ xs) ys (suc k) h = slice_get-before xs ys k (omega arith)
-
--- the item after the first of two lists is the head of the other
-pub slice_get-between : (xs ys : List Formula) (y : Formula) → slice_get (xs ++ y ∷ ys) (length xs) ≡ Some y
-slice_get-between [] ys y = refl
-slice_get-between (x ∷ xs) ys y = slice_get-between xs ys y
-
 -- the count of a part is that of its place
 count_at : (p : ℕ) (f g : Formula) (k count : ℕ) → slice_get (parts f) k ≡ Some g → HasClassCount p (λ w. sat p g w) count → HasCount p f (suc k) count
 count_at p f g k count e h = subst (λ o. HasClassCount p (claim_of p f o) count) (sym e) h
@@ -109,7 +99,7 @@ within_limit p limit f fs gs ns e h (suc k) s l =
     let z = zipped p limit fs ns h k n in
     record {
       count = slice_index ns k;
-      has = count_at p f z.0 k (slice_index ns k) (ap (λ xs. slice_get xs k) e ∙ slice_get-before fs gs k (omega (arith, l)) ∙ z.1) z.2.has;
+      has = count_at p f z.0 k (slice_index ns k) (ap (λ xs. slice_get xs k) e ∙ get-append fs gs k (omega (arith, l)) ∙ z.1) z.2.has;
       within = z.2.within;
     }
 
@@ -120,7 +110,7 @@ first_over_part p limit f number count x =
     record {
       some = omega (arith, e);
       last = omega (arith, e, ap length x.split, length-append x.before (x.stop ∷ x.after));
-      has = subst (λ k. HasCount p f k count) (sym e) (count_at p f x.stop (length x.before) count (ap (λ xs. slice_get xs (length x.before)) x.split ∙ slice_get-between x.before x.after x.stop) x.has);
+      has = subst (λ k. HasCount p f k count) (sym e) (count_at p f x.stop (length x.before) count (ap (λ xs. slice_get xs (length x.before)) x.split ∙ get-append_next x.before x.after x.stop) x.has);
       over = x.over;
       before = λ j s l. within_limit p limit f x.before (x.stop ∷ x.after) x.added x.split x.counts j s (omega (arith, l, e));
     }

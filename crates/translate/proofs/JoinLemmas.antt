@@ -1,5 +1,5 @@
 -- Diagrams joined by an operation: literals, bodies and claims.
-use Rattle.std.proofs.Common.{◌≡◌, ℕ, zero, suc, ◌<◌, ◌≤◌, ◌+◌, List, length, refl, sym, ◌∙◌, ap, arith, Result, IfOk}
+use Rattle.std.proofs.Common.{◌≡◌, ℕ, ◌<◌, ◌≤◌, ◌+◌, List, length, refl, sym, ◌∙◌, ap, arith, Result, IfOk}
 use Rattle.std.specs.Prelude.{◌==◌}
 use Rattle.std.proofs.lemmas.Bool.Decides.{nat_tests}
 use Rattle.std.proofs.lemmas.Result.{IfOk-weaker}
@@ -17,7 +17,8 @@ use Rattle.obligations.specs.Value.{by_values, cell, holds, IsClaim, IsBody, Fit
 use Rattle.obligations.specs.Inclusion.{later}
 use Rattle.obligations.proofs.Holds.{by_values-obligations, cell-lasts, body_lasts, body_wider}
 use Rattle.translate.specs.Joined.{IsJoin, joined}
-use Rattle.diagrams.proofs.Literals.{literal_small, literal_one, literal_same}
+use Rattle.diagrams.proofs.Literals.{min-and, max-or, literal_small, literal_one, literal_same}
+use Rattle.path_programs.proofs.Making.{equal-agree}
 
 -- the literal of an obligation is a body
 pub literal_body : (n : Diagrams) (p j count : ℕ) (i : Id) → n.props ≡ p → j < count → Means n i (literal_value (p + j)) → IsBody n count i
@@ -49,13 +50,13 @@ literal_holds s m k c f j h i x w =
     ∙ cell-lasts s m k c f w j h
 
 -- operations that join may be applied to the terminals 0 and 1
-pub can_apply : (op : Op) → IsJoin op → (x y : ℕ) → x < 2 → y < 2 → CanApply op x y
-can_apply And j x y h k = (h, k)
-can_apply Or j x y h k = (h, k)
-can_apply Iff j x y h k = (h, k)
-can_apply Least j x y h k = tt
-can_apply Greatest j x y h k = tt
-can_apply (Pair w) j x y h k = elim j [ ]
+pub join_can_apply : (op : Op) → IsJoin op → (x y : ℕ) → x < 2 → y < 2 → CanApply op x y
+join_can_apply And j x y h k = (h, k)
+join_can_apply Or j x y h k = (h, k)
+join_can_apply Iff j x y h k = (h, k)
+join_can_apply Least j x y h k = tt
+join_can_apply Greatest j x y h k = tt
+join_can_apply (Pair w) j x y h k = elim j [ ]
 
 -- and give 0 and 1
 applied_small : (op : Op) → IsJoin op → (x y : ℕ) → x < 2 → y < 2 → applied op x y < 2
@@ -67,28 +68,16 @@ applied_small Greatest j x y h k = elim j [ ]
 applied_small (Pair w) j x y h k = elim j [ ]
 
 applied_one : (op : Op) → IsJoin op → (x y : ℕ) → x < 2 → y < 2 → (applied op x y == 1) ≡ joined op (x == 1) (y == 1)
-applied_one And j zero zero h k = refl
-applied_one And j zero (suc zero) h k = refl
-applied_one And j (suc zero) zero h k = refl
-applied_one And j (suc zero) (suc zero) h k = refl
-applied_one Or j zero zero h k = refl
-applied_one Or j zero (suc zero) h k = refl
-applied_one Or j (suc zero) zero h k = refl
-applied_one Or j (suc zero) (suc zero) h k = refl
-applied_one Iff j zero zero h k = refl
-applied_one Iff j zero (suc zero) h k = refl
-applied_one Iff j (suc zero) zero h k = refl
-applied_one Iff j (suc zero) (suc zero) h k = refl
+applied_one And j x y h k = min-and x y h k
+applied_one Or j x y h k = max-or x y h k
+applied_one Iff j x y h k = equal-agree x y h k
 applied_one Least j x y h k = elim j [ ]
 applied_one Greatest j x y h k = elim j [ ]
 applied_one (Pair w) j x y h k = elim j [ ]
-applied_one op j (suc (suc x)) y h k = absurd (omega arith)
-applied_one op j zero (suc (suc y)) h k = absurd (omega arith)
-applied_one op j (suc zero) (suc (suc y)) h k = absurd (omega arith)
 
 -- two diagrams with the terminals 0 and 1 may be joined
 pub can_join : (s : Diagrams) (op : Op) → IsJoin op → (f g : Id) → ((a : Assignment) → eval s f a < 2) → ((a : Assignment) → eval s g a < 2) → CanCombine s op f g
-can_join s op j f g h k a = can_apply op j (eval s f a) (eval s g a) (h a) (k a)
+can_join s op j f g h k a = join_can_apply op j (eval s f a) (eval s g a) (h a) (k a)
 
 -- what is joined in the grown store
 pub combined_lasts : (m n : Diagrams) → Keeps m n → (op : Op) (f g i : Id) → IsLive m f → IsLive m g → Means n i (combined_value m op f g) → Means n i (combined_value n op f g)
@@ -144,8 +133,8 @@ next_says r s m n k l op j now next own b x =
     ∙ ap (joined op (is_one n now a)) (literal_says n s.props own next (l.extends.props ∙ k.extends.props) z a))
 
 -- a literal is 0 or 1
-pub literal_truth : (n : Diagrams) (v : ℕ) (i : Id) → Means n i (literal_value v) → (a : Assignment) → eval n i a < 2
-literal_truth n v i m a = rw (m.value a) (literal_small v a)
+pub means_literal_small : (n : Diagrams) (v : ℕ) (i : Id) → Means n i (literal_value v) → (a : Assignment) → eval n i a < 2
+means_literal_small n v i m a = rw (m.value a) (literal_small v a)
 
 -- literals joined are a claim
 pub literals_claim : (s m n : Diagrams) → Keeps s m → Keeps m n → (op : Op) → IsJoin op → (count j k : ℕ) → j < count → k < count → (f g i : Id)
@@ -163,5 +152,5 @@ literals_hold s m n a b op o c d j k h l f g i x y z w =
     let t = Keeps_trans s m n a b in
     let p = means_lasts m n b f (literal_value (s.props + j)) x in
     let q = means_lasts m n b g (literal_value (s.props + k)) y in
-    combined_one n op o f g i (literal_truth n (s.props + j) f p) (literal_truth n (s.props + k) g q) (combined_lasts m n b op f g i x.live y.live z) (by_values n.props (cell n c w))
+    combined_one n op o f g i (means_literal_small n (s.props + j) f p) (means_literal_small n (s.props + k) g q) (combined_lasts m n b op f g i x.live y.live z) (by_values n.props (cell n c w))
     ∙ rw (literal_holds s n t c d j h f p w, literal_holds s n t c d k l g q w) refl

@@ -139,9 +139,9 @@ IsLeastOf-flipped s t q f h small l m x = record {
 }
 
 -- the least automaton of a claim, where there is one, is that of each claim that holds of the same words
-pub least_ok : {E : Type 0} (r : Result Table E) (n : Diagrams) (f g : Claim) → ((w : Word) → f w ≡ g w) → IfOk r (λ q. IsLeastOf n q f) → IfOk r (λ q. IsLeastOf n q g)
-least_ok (Ok q) n f g e x = IsLeastOf-same n q f g e x
-least_ok (Err d) n f g e x = tt
+pub least_same_ok : {E : Type 0} (r : Result Table E) (n : Diagrams) (f g : Claim) → ((w : Word) → f w ≡ g w) → IfOk r (λ q. IsLeastOf n q f) → IfOk r (λ q. IsLeastOf n q g)
+least_same_ok (Ok q) n f g e x = IsLeastOf-same n q f g e x
+least_same_ok (Err d) n f g e x = tt
 
 -- what is flipped is the least automaton of what the other does not accept
 pub flipped_ok : {E : Type 0} (r : Result Table E) (s : Diagrams) (t : Table) → Fits s t → t.first < size_of t → ((at : ℕ) → at < size_of t → mark_of t at < 2) → IsLeast s.props (moves_of s t) → IsNumbered s.props (moves_of s t)

@@ -17,8 +17,9 @@ use Rattle.obligations.specs.declared.cells.Obligation.{Obligation}
 use Rattle.obligations.specs.Value.{by_values, joint, cell, holds, IsBody, IsClaim, FitsCells}
 use Rattle.obligations.proofs.Holds.{joint-letter}
 use Rattle.translate.specs.Joined.{repeated, awaited, stepped, ended}
-use Rattle.translate.proofs.JoinLemmas.{literal_claim, literal_holds, literal_truth}
-use Rattle.translate.proofs.StandingLemmas.{from_bool_small}
+use Rattle.translate.proofs.JoinLemmas.{literal_claim, literal_holds, means_literal_small}
+use Rattle.automata.proofs.Letters.{from_bool_small, from_bool_one}
+use Rattle.diagrams.proofs.Windows.{if_below}
 use Rattle.diagrams.proofs.Literals.{literal_small, literal_one, literal_same}
 
 -- eventually
@@ -55,17 +56,13 @@ stepped-weak_next f (a ∷ w) = refl
 pub fits_none : (s : Diagrams) (c : List Obligation) → c ≡ [] → FitsCells s c
 fits_none s c e = rw e (λ j h. absurd (omega arith))
 
-constant_one : (b : Bool) → (from_bool b == 1) ≡ b
-constant_one true = refl
-constant_one false = refl
-
 -- a constant is a claim
 pub constant_claim : (s : Diagrams) (count : ℕ) (value : Bool) (i : Id) → Means s i (λ _. from_bool value) → IsClaim s count i
 constant_claim s count value i m = record { live = m.live; over = λ a b same. m.value a ∙ sym (m.value b); truth = λ a. rw (m.value a) (from_bool_small value) }
 
 -- which holds on all words or on none
 pub constant_holds : (s : Diagrams) (c : List Obligation) (value : Bool) (i : Id) → Means s i (λ _. from_bool value) → (w : Word) → holds s c i w ≡ value
-constant_holds s c value i m w = ap (λ v. v == 1) (m.value (by_values s.props (cell s c w))) ∙ constant_one value
+constant_holds s c value i m w = ap (λ v. v == 1) (m.value (by_values s.props (cell s c w))) ∙ from_bool_one value
 
 -- the literal of a proposition is a body
 pub atom_body : (s : Diagrams) (i count : ℕ) (body : Id) → i < s.props → Means s body (literal_value i) → IsBody s count body
@@ -107,10 +104,6 @@ chosen_means q n k f g one i x y z m a =
     choice true v = refl
     choice false v = refl
 
-chosen_small : (b : Bool) (x y : ℕ) → x < 2 → y < 2 → (if b then x else y) < 2
-chosen_small true x y h k = h
-chosen_small false x y h k = k
-
 -- literals chosen by are a claim
 pub chosen_claim : (s m q n : Diagrams) → Keeps s m → Keeps m q → Keeps q n → (count j k : ℕ) → j < count → k < count → (f g one i : Id)
     → Means m f (literal_value (s.props + j)) → Means m g (literal_value (s.props + k)) → Means q one (λ _. 1) → Means n i (chosen_value q f g one) → IsClaim n count i
@@ -129,7 +122,7 @@ chosen_claim s m q n a b d count j k h l f g one i x y z e =
           let f_over : eval q f v ≡ eval q f u = sym (f_same v) ∙ x2.over v u same ∙ f_same u in
           let g_over : eval q g v ≡ eval q g u = sym (g_same v) ∙ y2.over v u same ∙ g_same u in
           e.value v ∙ rw (f_over, g_over, z.value v, z.value u) refl ∙ sym (e.value u);
-      truth = λ v. rw (e.value v, z.value v) (chosen_small (eval q f v == 1) (eval q g v) 1 (rw (y1.value v) (literal_small (s.props + k) v)) (omega arith));
+      truth = λ v. rw (e.value v, z.value v) (if_below (eval q f v == 1) (eval q g v) 1 2 (rw (y1.value v) (literal_small (s.props + k) v)) (omega arith));
     }
 
 -- and hold where the first obligation does not or the second does
@@ -141,7 +134,7 @@ chosen_holds s m q n a b d c fits j k h l f g one i x y z e w =
     let u = Keeps_trans s m n a t in
     let x1 = means_lasts m q b f (literal_value (s.props + j)) x in
     let y1 = means_lasts m q b g (literal_value (s.props + k)) y in
-    chosen_means q n d f g one i (record { live = x1.live; truth = literal_truth q (s.props + j) f x1 }) (record { live = y1.live; truth = literal_truth q (s.props + k) g y1 }) z e (by_values n.props (cell n c w))
+    chosen_means q n d f g one i (record { live = x1.live; truth = means_literal_small q (s.props + j) f x1 }) (record { live = y1.live; truth = means_literal_small q (s.props + k) g y1 }) z e (by_values n.props (cell n c w))
     ∙ rw (
       literal_holds s n u c fits j h f (means_lasts m n t f (literal_value (s.props + j)) x) w,
       literal_holds s n u c fits k l g (means_lasts m n t g (literal_value (s.props + k)) y) w,

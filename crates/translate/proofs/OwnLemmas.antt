@@ -18,8 +18,8 @@ use Rattle.obligations.proofs.InclusionLemmas.{later-joint}
 use Rattle.path_programs.proofs.Resting.{last-one}
 use Rattle.translate.specs.Joined.{IsJoin, joined, repeated, awaited, stepped, ended}
 use Rattle.translate.specs.Standing.{Stands}
-use Rattle.translate.proofs.StandingLemmas.{goes_on_add, fits_add}
-use Rattle.translate.proofs.JoinLemmas.{literal_claim, literal_holds, literal_says, literal_body, literal_truth, body_grown, combined_body, combined_one, combined_lasts}
+use Rattle.translate.proofs.StandingLemmas.{goes_on_by, fits_by}
+use Rattle.translate.proofs.JoinLemmas.{literal_claim, literal_holds, literal_says, literal_body, means_literal_small, body_grown, combined_body, combined_one, combined_lasts}
 
 -- the table with the operator's obligation
 abbrev pub with_own : List Obligation → Bool → Id → List Obligation
@@ -36,12 +36,12 @@ pub own_holds : (s m : Diagrams) → Keeps s m → (c d : List Obligation) (x : 
     → Means m i (literal_value (s.props + j)) → (w : Word) → holds m d i w ≡ cell s (c ++ x ∷ []) w (length c)
 own_holds s m k c d x f b e j h i y w =
     let l : j < length d = rw (h, e, length-append) (omega arith) in
-    literal_holds s m k d (fits_add s s c d x (Keeps_refl s k.was) f b e) j l i y w
+    literal_holds s m k d (fits_by s s c d x (Keeps_refl s k.was) f b e) j l i y w
     ∙ ap (λ v. cell s v w j) e
     ∙ ap (cell s (c ++ x ∷ []) w) h
 
 body_before : (c : List Obligation) (x : Obligation) (j : ℕ) → j < length c → body_of (c ++ x ∷ []) j ≡ body_of c j
-body_before c x j h = ap (λ v. v.body) ((goes_on_add c (c ++ x ∷ []) x refl).same j (omega arith) h)
+body_before c x j h = ap (λ v. v.body) ((goes_on_by c (c ++ x ∷ []) x refl).same j (omega arith) h)
 
 cell-repeated : (n : Diagrams) (d : List Obligation) (j now : ℕ) (op : Op) (ends : Bool) (f : Claim) → ends_of d j ≡ ends
     → ((a : Assignment) → is_one n (body_of d j) a ≡ joined op (is_one n (body_of d now) a) (later n j a)) → ((w : Word) → cell n d w now ≡ f w) → (w : Word)
@@ -61,7 +61,7 @@ own_repeated s n k c now f x op ends body says w =
     let last : slice_index_or (c ++ y ∷ []) (length c) missing ≡ y = last-one c (c ++ y ∷ []) y refl in
     cell-repeated n (c ++ y ∷ []) (length c) now op ends f (ap (λ v. v.ends) last)
     (λ a. ap (λ v. is_one n v.body a) last ∙ says a ∙ ap (λ v. joined op (is_one n v a) (later n (length c) a)) (sym (body_before c y now x.within)))
-    (λ v. x.same n (c ++ y ∷ []) k (goes_on_add c (c ++ y ∷ []) y refl) v) w
+    (λ v. x.same n (c ++ y ∷ []) k (goes_on_by c (c ++ y ∷ []) y refl) v) w
 
 cell-awaited : (n : Diagrams) (d : List Obligation) (j p q : ℕ) (outer inner : Op) (ends : Bool) (f g : Claim) → ends_of d j ≡ ends
     → ((a : Assignment) → is_one n (body_of d j) a ≡ joined outer (is_one n (body_of d q) a) (joined inner (is_one n (body_of d p) a) (later n j a)))
@@ -87,8 +87,8 @@ own_awaited s n k c p q f g x z outer inner ends body says w =
     ∙ says a
     ∙ ap (λ v. joined outer (is_one n (body_of c q) a) (joined inner (is_one n v a) (later n (length c) a))) (sym (body_before c y p x.within))
     ∙ ap (λ v. joined outer (is_one n v a) (joined inner (is_one n (body_of (c ++ y ∷ []) p) a) (later n (length c) a))) (sym (body_before c y q z.within)))
-    (λ v. x.same n (c ++ y ∷ []) k (goes_on_add c (c ++ y ∷ []) y refl) v)
-    (λ v. z.same n (c ++ y ∷ []) k (goes_on_add c (c ++ y ∷ []) y refl) v) w
+    (λ v. x.same n (c ++ y ∷ []) k (goes_on_by c (c ++ y ∷ []) y refl) v)
+    (λ v. z.same n (c ++ y ∷ []) k (goes_on_by c (c ++ y ∷ []) y refl) v) w
 
 cell-stepped : (n : Diagrams) (d : List Obligation) (j p q : ℕ) (op : Op) (ends : Bool) (f : Claim) → ends_of d j ≡ ends
     → ((a : Assignment) → is_one n (body_of d j) a ≡ joined op (later n q a) (later n p a)) → ((w : Word) → cell n d w p ≡ f w) → ((w : Word) → cell n d w q ≡ ended ends w) → (w : Word)
@@ -108,8 +108,8 @@ own_stepped s n k c p q f ends x z op body says w =
     let last : slice_index_or (c ++ y ∷ []) (length c) missing ≡ y = last-one c (c ++ y ∷ []) y refl in
     cell-stepped n (c ++ y ∷ []) (length c) p q op ends f (ap (λ v. v.ends) last)
     (λ a. ap (λ v. is_one n v.body a) last ∙ says a)
-    (λ v. x.same n (c ++ y ∷ []) k (goes_on_add c (c ++ y ∷ []) y refl) v)
-    (λ v. z.same n (c ++ y ∷ []) k (goes_on_add c (c ++ y ∷ []) y refl) v) w
+    (λ v. x.same n (c ++ y ∷ []) k (goes_on_by c (c ++ y ∷ []) y refl) v)
+    (λ v. z.same n (c ++ y ∷ []) k (goes_on_by c (c ++ y ∷ []) y refl) v) w
 
 -- what the body of an operator that waits says, where g and what is asked of the next position are joined
 pub awaited_says : (s m n : Diagrams) → Keeps s m → Keeps m n → (outer inner : Op) → IsJoin outer → (f g rest body : Id) (own : ℕ) → IsBody s own f → IsBody s own g → IsBody m (own + 1) rest
@@ -138,7 +138,7 @@ stepped_says s m n k l op o p q f g body x y e a =
     let props : n.props ≡ s.props = l.extends.props ∙ k.extends.props in
     let x2 = means_lasts m n l f (literal_value (s.props + p)) x in
     let y2 = means_lasts m n l g (literal_value (s.props + q)) y in
-    combined_one n op o f g body (literal_truth n (s.props + p) f x2) (literal_truth n (s.props + q) g y2) (combined_lasts m n l op f g body x.live y.live e) a
+    combined_one n op o f g body (means_literal_small n (s.props + p) f x2) (means_literal_small n (s.props + q) g y2) (combined_lasts m n l op f g body x.live y.live e) a
     ∙ ap (λ v. joined op v (is_one n g a)) (literal_says n s.props p f props x2 a)
     ∙ ap (joined op (later n p a)) (literal_says n s.props q g props y2 a)
 

@@ -1,9 +1,7 @@
 -- Obligations that stand for claims, as the store and the table grow.
-use Rattle.std.proofs.Common.{◌≡◌, ℕ, ◌<◌, ◌+◌, ◌++◌, Bool, true, false, List, [], ◌∷◌, length, length-append, refl, sym, ◌∙◌, ap, arith, inl, inr}
+use Rattle.std.proofs.Common.{◌≡◌, ℕ, ◌<◌, ◌+◌, ◌++◌, Bool, true, false, List, [], ◌∷◌, length, length-append, refl, sym, ◌∙◌, ap, subst, arith}
 use Rattle.std.specs.Prelude.{◌==◌, not, slice_index_or}
 use Rattle.std.specs.Int.{from_bool}
-use Rattle.std.proofs.lemmas.Bool.{cases_lt}
-use Rattle.std.proofs.lemmas.List.{get_or_append_left}
 use Rattle.forms.specs.Word.{Word, Claim}
 use Rattle.forms.specs.Operators.{agree}
 use Rattle.diagrams.specs.declared.top.Id.{Id}
@@ -13,49 +11,41 @@ use Rattle.diagrams.specs.Live.{Keeps, IsCanonical, Means}
 use Rattle.diagrams.proofs.Meaning.{eval-lasts, Keeps_refl, Keeps_trans}
 use Rattle.automata.specs.Table.{Table, size_of, Fits}
 use Rattle.automata.proofs.Lasts.{mark_after-lasts}
+use Rattle.automata.proofs.Letters.{from_bool_small}
 use Rattle.obligations.specs.declared.cells.Obligation.{Obligation}
 use Rattle.obligations.specs.Table.{missing, ends_of, body_of}
 use Rattle.obligations.specs.Value.{cell, IsBody, FitsCells, joint}
 use Rattle.obligations.specs.Followed.{GoesOn, StandsFor}
-use Rattle.obligations.proofs.Holds.{body_lasts, body_wider}
+use Rattle.obligations.proofs.Holds.{fits_cells_lasts}
+use Rattle.path_programs.proofs.Growing.{from_earlier, fits_add, goes_on_add}
 use Rattle.path_programs.proofs.Resting.{last-one}
 use Rattle.translate.specs.Exact.{accepted}
 use Rattle.translate.specs.Joined.{ended}
 use Rattle.translate.specs.Standing.{Stands}
-use Rattle.obligations.proofs.Stands.{goes_on_refl}
-
--- going on twice is going on
-pub goes_on_trans : (b c d : List Obligation) → GoesOn b c → GoesOn c d → GoesOn b d
-goes_on_trans b c d g h = record {
-  longer = let x = g.longer in let y = h.longer in omega arith;
-  same = λ j a l. let x = g.longer in h.same j a (omega arith) ∙ g.same j a l;
-}
+use Rattle.obligations.proofs.Stands.{from_refl}
 
 -- a table goes on with one more
-pub goes_on_add : (c d : List Obligation) (x : Obligation) → d ≡ c ++ x ∷ [] → GoesOn c d
-goes_on_add c d x e = record {
-  longer = rw (e, length-append) (omega arith);
-  same = λ j a l. rw e (get_or_append_left c (x ∷ []) missing j l);
-}
+pub goes_on_by : (c d : List Obligation) (x : Obligation) → d ≡ c ++ x ∷ [] → GoesOn c d
+goes_on_by c d x e = subst (GoesOn c) (sym e) (goes_on_add c x)
 
 -- an obligation stands for its claim in what grows
 pub Stands-lasts : (s n : Diagrams) (c d : List Obligation) (j : ℕ) (f : Claim) → Keeps s n → GoesOn c d → Stands s c j f → Stands n d j f
 Stands-lasts s n c d j f k g x = record {
   within = let a = g.longer in let b = x.within in omega arith;
-  same = λ m e l h w. x.same m e (Keeps_trans s n m k l) (goes_on_trans c d e g h) w;
+  same = λ m e l h w. x.same m e (Keeps_trans s n m k l) (from_earlier 0 c d e g h) w;
 }
 
 -- its value is its claim's
 pub cell-stands : (s : Diagrams) → IsCanonical s → (c : List Obligation) (j : ℕ) (f : Claim) → Stands s c j f → (w : Word) → cell s c w j ≡ f w
-cell-stands s k c j f x w = x.same s c (Keeps_refl s k) (goes_on_refl c) w
+cell-stands s k c j f x w = x.same s c (Keeps_refl s k) (from_refl 0 c) w
 
 -- an obligation stands for each claim that holds of the same words
 pub Stands-same : (s : Diagrams) (c : List Obligation) (j : ℕ) (f g : Claim) → ((w : Word) → f w ≡ g w) → Stands s c j f → Stands s c j g
 Stands-same s c j f g e x = record { within = x.within; same = λ n d k h w. x.same n d k h w ∙ e w }
 
 -- what an automaton accepts as its store grows
-pub accepted-lasts : (s n : Diagrams) → Keeps s n → (t : Table) → Fits s t → t.first < size_of t → (w : Word) → accepted n t w ≡ accepted s t w
-accepted-lasts s n k t f h w = ap (λ v. v == 1) (mark_after-lasts s n k t f t.first w h)
+pub accepted_word-lasts : (s n : Diagrams) → Keeps s n → (t : Table) → Fits s t → t.first < size_of t → (w : Word) → accepted n t w ≡ accepted s t w
+accepted_word-lasts s n k t f h w = ap (λ v. v == 1) (mark_after-lasts s n k t f t.first w h)
 
 -- the obligation of the first location stands for what the automaton accepts
 pub Stands-location : (s0 s : Diagrams) (c : List Obligation) (t : Table) (base : ℕ) → Keeps s0 s → Fits s0 t → t.first < size_of t → length c ≡ base + size_of t → StandsFor s c t base
@@ -64,7 +54,7 @@ Stands-location s0 s c t base k f h count x = record {
   within = omega arith;
   same = λ n d l g w.
       x n d l (record { longer = g.longer; same = λ j a b. g.same j (omega arith) b }) t.first h w
-      ∙ accepted-lasts s0 s k t f h w;
+      ∙ accepted_word-lasts s0 s k t f h w;
 }
 
 -- a constant is a body
@@ -72,28 +62,12 @@ pub body_constant : (s : Diagrams) (count x : ℕ) (f : Id) → x < 2 → Means 
 body_constant s count x f h m = record { live = m.live; over = λ a b same. m.value a ∙ sym (m.value b); truth = λ a. rw (m.value a) h }
 
 -- the table with one more obligation fits the store
-pub fits_add : (s n : Diagrams) (c d : List Obligation) (x : Obligation) → Keeps s n → FitsCells s c → IsBody n (length c + 1) x.body → d ≡ c ++ x ∷ [] → FitsCells n d
-fits_add s n c d x k f b e j h =
-    let count : length d ≡ length c + 1 = rw (e, length-append) refl in
-    rw count (
-    elim (cases_lt j (length c)) [
-      | inl l ↦
-          let same : body_of d j ≡ body_of c j = ap (λ v. v.body) ((goes_on_add c d x e).same j (omega arith) l) in
-          rw same (body_wider n (length c) (length c + 1) (body_of c j) (omega arith) (body_lasts s n k (length c) (body_of c j) (f j l)))
-      | inr l ↦
-          let here : j ≡ length c = omega arith in
-          let same : body_of d (length c) ≡ x.body = ap (λ v. v.body) (last-one c d x e) in
-          rw (here, same) b
-    ])
-
--- a truth value's number is below 2
-pub from_bool_small : (b : Bool) → from_bool b < 2
-from_bool_small true = omega arith
-from_bool_small false = omega arith
+pub fits_by : (s n : Diagrams) (c d : List Obligation) (x : Obligation) → Keeps s n → FitsCells s c → IsBody n (length c + 1) x.body → d ≡ c ++ x ∷ [] → FitsCells n d
+fits_by s n c d x k f b e = subst (FitsCells n) (sym e) (fits_add n c x (fits_cells_lasts s n k c f) b)
 
 -- the constant of a truth value is a body
-pub body_truth : (s : Diagrams) (count : ℕ) (b : Bool) (f : Id) → Means s f (λ _. from_bool b) → IsBody s count f
-body_truth s count b f m = body_constant s count (from_bool b) f (from_bool_small b) m
+pub truth_body : (s : Diagrams) (count : ℕ) (b : Bool) (f : Id) → Means s f (λ _. from_bool b) → IsBody s count f
+truth_body s count b f m = body_constant s count (from_bool b) f (from_bool_small b) m
 
 agree_true : (b : Bool) → b ≡ agree b true
 agree_true true = refl

@@ -1,15 +1,16 @@
 use Rattle.std.proofs.Common.{◌≡◌, ◌<◌, ◌≤◌, ◌+◌, Some, arith, sym, ◌∙◌, ap, length, get_or}
 use Rattle.std.specs.Prelude.{slice_get}
+use Rattle.std.proofs.lemmas.List.{nil_from_length}
 use Rattle.std.proofs.lemmas.Option.{slice_get-get_or}
 use Rattle.minimise.specs.declared.blocks.Key.{Key}
-use Rattle.minimise.proofs.PartitionLemmas.{key_true, partition_none, partition_more, partition_few, no_items, inserted_few}
+use Rattle.minimise.proofs.PartitionLemmas.{key_true, partition_none, partition_more, partition_few, inserted_few}
 use Rattle.minimise.proofs.blocks.divide.Goals as goal
 
 none : Key
 none = record { mark = 0; row = record { 0 = 0 } }
 
 pub loop-key-init : goal.loop-key-init
-loop-key-init c = rw (c.new-blocks.ensures.items, no_items c.new-kinds.result.keys c.new-kinds.ensures.len) (partition_none c.args.keys.now)
+loop-key-init c = rw (c.new-blocks.ensures.items, nil_from_length c.new-kinds.result.keys c.new-kinds.ensures.len) (partition_none c.args.keys.now)
 
 pub overflow_cast-block : goal.overflow_cast-block
 unfolding none

@@ -5,7 +5,7 @@ use Rattle.diagrams.proofs.Meaning.{Keeps_refl, Keeps_trans}
 use Rattle.automata.specs.Table.{size_of, IsRow}
 use Rattle.automata.proofs.Lasts.{fits_lasts}
 use Rattle.minimise.specs.Divisions.{AreBlockRows}
-use Rattle.minimise.proofs.DivisionLemmas.{transforms_means, rows_none, rows_more}
+use Rattle.minimise.proofs.DivisionLemmas.{transforms_means, rows_none, block_rows_more}
 use Rattle.minimise.proofs.divisions.block_rows.Goals as goal
 
 pub loop-at-init : goal.loop-at-init
@@ -31,7 +31,7 @@ loop-at-preserved c =
       keeps = Keeps_trans c.args.store.now c.loop-at.store c.map_terminals_with.new.self c.loop-at.invariant.keeps c.in_ok-map_terminals_with.ensures.keeps;
       right = c.in_ok-map_terminals_with.ensures.right;
       rows = rw (c.in_ok-push.ensures.items)
-          (rows_more c.args.store.now c.loop-at.store c.map_terminals_with.new.self t c.args.blocks.now c.loop-at.rows.items c.loop-at.at c.row.result _
+          (block_rows_more c.args.store.now c.loop-at.store c.map_terminals_with.new.self t c.args.blocks.now c.loop-at.rows.items c.loop-at.at c.row.result _
           c.loop-at.invariant.keeps c.in_ok-map_terminals_with.ensures.keeps c.requires.fits within c.loop-at.invariant.rows c.row.ensures
           (transforms_means c.loop-at.store c.map_terminals_with.new.self c.args.blocks.now c.row.result _ c.in_ok-map_terminals_with.ensures.id));
     }

@@ -2,7 +2,7 @@ use Rattle.std.proofs.Common.{◌<◌, arith, refl}
 use Rattle.diagrams.proofs.Meaning.{Keeps_trans}
 use Rattle.automata.specs.Table.{size_of, row_of}
 use Rattle.minimise.specs.Divisions.{targets_at}
-use Rattle.minimise.proofs.DivisionLemmas.{rows_more, old_row, targets_last}
+use Rattle.minimise.proofs.DivisionLemmas.{block_rows_more, old_row, targets_last}
 use Rattle.minimise.proofs.divisions.renewed_rows.Goals as goal
 
 pub renewed-requires-clause-old : goal.renewed-requires-clause-old
@@ -27,6 +27,6 @@ loop-at-preserved c =
       keeps = Keeps_trans c.args.store.now c.loop-at.store c.renewed.new.store c.loop-at.invariant.keeps c.in_ok-row.ensures.keeps;
       right = c.in_ok-row.ensures.right;
       rows = rw (c.in_ok-push.ensures.items)
-          (rows_more c.args.store.now c.loop-at.store c.renewed.new.store t c.args.new.now c.loop-at.after.items c.loop-at.at c.row.result c.in_ok-row.row
+          (block_rows_more c.args.store.now c.loop-at.store c.renewed.new.store t c.args.new.now c.loop-at.after.items c.loop-at.at c.row.result c.in_ok-row.row
           c.loop-at.invariant.keeps c.in_ok-row.ensures.keeps c.requires.fits within c.loop-at.invariant.rows c.row.ensures c.in_ok-row.ensures.row);
     }

@@ -1,5 +1,5 @@
 use Rattle.obligations.proofs.Holds.{fits_cells_lasts}
-use Rattle.obligations.proofs.Stands.{goes_on_refl, ends_none}
+use Rattle.obligations.proofs.Stands.{from_refl, ends_none}
 use Rattle.obligations.proofs.following.append.Goals as goal
 
 pub returns-in_err-never-clause-cells : goal.returns-in_err-never-clause-cells
@@ -8,6 +8,6 @@ returns-in_err-never-clause-cells c = fits_cells_lasts c.args.store.now c.termin
 pub loop-at-init : goal.loop-at-init
 loop-at-init c = record {
   fits = fits_cells_lasts c.args.store.now c.terminal.new.self c.terminal.ensures.keeps c.args.cells.now c.requires.cells;
-  grows = goes_on_refl c.args.cells.now;
+  grows = from_refl 0 c.args.cells.now;
   ends = ends_none c.args.cells.now c.args.automaton.now;
 }

@@ -11,8 +11,8 @@ use Rattle.obligations.specs.Table.{ends_of, body_of}
 use Rattle.obligations.proofs.Holds.{fits_cells_lasts}
 use Rattle.path_programs.proofs.Making.{body_truth}
 use Rattle.path_programs.proofs.Growing.{grown_keeps, grown_trans, grown_store}
-use Rattle.path_programs.proofs.Resting.{literal_claim}
-use Rattle.path_programs.proofs.TestLists.{tests_last, all_tests}
+use Rattle.path_programs.proofs.Resting.{one_literal_claim}
+use Rattle.path_programs.proofs.TestLists.{has_tests_last, all_tests}
 use Rattle.path_programs.proofs.Earlier.{cell-grown}
 use Rattle.path_programs.proofs.Compiled.{compiled_ok, grown_added, whole_says, whole_body}
 use Rattle.path_programs.proofs.compiling.compile.Goals.{then-lead, else-lead}
@@ -22,11 +22,11 @@ pub walk-requires-clause-fits : goal.walk-requires-clause-fits
 walk-requires-clause-fits c = fits_cells_lasts _ _ c.literal.ensures.keeps c.args.cells.now c.requires.fits
 
 pub walk-requires-clause-later : goal.walk-requires-clause-later
-walk-requires-clause-later c = literal_claim _ c.args.then _ _ c.requires.then c.in_ok-later.ensures.id
+walk-requires-clause-later c = one_literal_claim _ c.args.then _ _ c.requires.then c.in_ok-later.ensures.id
 
 pub walk-requires-clause-tests : goal.walk-requires-clause-tests
 walk-requires-clause-tests c =
-    tests_last c.args.store.now c.literal.new.store c.literal.ensures.keeps c.args.tests.now (length c.args.tests.now) (program c.args.path.now)
+    has_tests_last c.args.store.now c.literal.new.store c.literal.ensures.keeps c.args.tests.now (length c.args.tests.now) (program c.args.path.now)
     (all_tests c.args.store.now c.args.tests.now (program c.args.path.now) c.requires.tests c.requires.meant)
 
 pub returns-in_err-later-clause-fits : goal.returns-in_err-later-clause-fits

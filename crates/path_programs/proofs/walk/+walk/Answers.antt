@@ -14,7 +14,7 @@ use Rattle.path_programs.specs.PathTests.{test_count}
 use Rattle.path_programs.specs.Lead.{AreBodies, IsLead, IsEither, IsInTurn}
 use Rattle.path_programs.proofs.Making.{body_truth, claim_more}
 use Rattle.path_programs.proofs.Growing.{grown_keeps, grown_same, grown_store, grown_trans, grown_set}
-use Rattle.path_programs.proofs.TestLists.{tests_last}
+use Rattle.path_programs.proofs.TestLists.{has_tests_last}
 use Rattle.path_programs.proofs.Arms.{bodies_last, bodies_either, bodies_in_turn, star_bodies, lead_choice, lead_seq, lead_star}
 use Rattle.path_programs.proofs.walk.+walk.Goals as goal
 
@@ -30,7 +30,7 @@ choice-walk-requires-2 t c =
           g.fits,
           (
             claim_more _ _ _ c.args.later g.grows.longer (claim_lasts _ _ k _ c.args.later c.requires.later),
-            rw c.in_ok-y.ensures.untaken (tests_last c.args.store.now c.walk.new.store k c.args.tests.now (c.args.untaken.now - test_count (program c.args.q.now)) (program c.args.p.now) c.requires.tests.1),
+            rw c.in_ok-y.ensures.untaken (has_tests_last c.args.store.now c.walk.new.store k c.args.tests.now (c.args.untaken.now - test_count (program c.args.q.now)) (program c.args.p.now) c.requires.tests.1),
           ),
         ),
       ),
@@ -76,7 +76,7 @@ sequence-walk-requires-2 t c =
           c.rest.ensures.grown.fits,
           (
             c.in_ok-next.ensures.claim,
-            rw c.in_ok-y.ensures.untaken (tests_last c.args.store.now c.rest.new.store k c.args.tests.now (c.args.untaken.now - test_count (program c.args.q.now)) (program c.args.p.now) c.requires.tests.1),
+            rw c.in_ok-y.ensures.untaken (has_tests_last c.args.store.now c.rest.new.store k c.args.tests.now (c.args.untaken.now - test_count (program c.args.q.now)) (program c.args.p.now) c.requires.tests.1),
           ),
         ),
       ),
@@ -120,7 +120,7 @@ star-walk-requires t c =
           c.again.ensures.grown.fits,
           (
             c.in_ok-next.ensures.claim,
-            tests_last c.args.store.now c.again.new.store k c.args.tests.now c.args.untaken.now (program c.args.p.now) c.requires.tests,
+            has_tests_last c.args.store.now c.again.new.store k c.args.tests.now c.args.untaken.now (program c.args.p.now) c.requires.tests,
           ),
         ),
       ),

@@ -4,7 +4,7 @@ use Rattle.obligations.specs.Table.{body_of}
 use Rattle.obligations.specs.Value.{IsBody}
 use Rattle.obligations.proofs.Holds.{body_lasts, fits_cells_lasts}
 use Rattle.translate.specs.Exact.{accepted}
-use Rattle.translate.proofs.LeastLemmas.{least_ok}
+use Rattle.translate.proofs.LeastLemmas.{least_same_ok}
 use Rattle.translate.proofs.JoinLemmas.{can_join}
 use Rattle.translate.proofs.OwnLemmas.{own_awaited, awaited_says, awaited_body}
 use Rattle.translate.proofs.joins.awaited_by.Goals as goal
@@ -37,7 +37,7 @@ solved_with-requires-clause-body c =
 pub returns-clause-least : goal.returns-clause-least
 returns-clause-least c =
     let cells = c.in_ok-of.of.cells in
-    least_ok c.solved_with.result c.solved_with.new.store _ _
+    least_same_ok c.solved_with.result c.solved_with.new.store _ _
     (own_awaited c.two_operands.new.store c.combine.new.self (Keeps_trans _ _ _ c.with_next.ensures.keeps c.combine.ensures.keeps) cells c.in_ok-of.of.first c.in_ok-of.of.second
     (accepted c.args.store.now c.args.a.now) (accepted c.args.store.now c.args.b.now) c.in_ok-of.ensures.first c.in_ok-of.ensures.second c.args.outer c.args.inner c.args.ends c.in_ok-body.body
     (awaited_says c.two_operands.new.store c.with_next.new.store c.combine.new.self c.with_next.ensures.keeps c.combine.ensures.keeps c.args.outer c.args.inner c.requires.outer

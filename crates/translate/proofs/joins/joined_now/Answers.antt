@@ -1,8 +1,8 @@
 use Rattle.std.proofs.Common.{length}
 use Rattle.obligations.proofs.Holds.{fits_cells_lasts}
 use Rattle.diagrams.proofs.Meaning.{Keeps_trans}
-use Rattle.translate.proofs.LeastLemmas.{least_ok}
-use Rattle.translate.proofs.JoinLemmas.{can_join, literal_truth, literals_claim, literals_hold}
+use Rattle.translate.proofs.LeastLemmas.{least_same_ok}
+use Rattle.translate.proofs.JoinLemmas.{can_join, means_literal_small, literals_claim, literals_hold}
 use Rattle.translate.proofs.joins.joined_now.Goals as goal
 
 pub combine-requires : goal.combine-requires
@@ -11,7 +11,7 @@ combine-requires c = record {
   g_live = c.in_ok-first.ensures.second.live;
   fit =
       can_join c.literals.new.store c.args.op c.requires.op c.in_ok-first.first c.in_ok-first.second
-      (literal_truth c.literals.new.store _ c.in_ok-first.first c.in_ok-first.ensures.first) (literal_truth c.literals.new.store _ c.in_ok-first.second c.in_ok-first.ensures.second);
+      (means_literal_small c.literals.new.store _ c.in_ok-first.first c.in_ok-first.ensures.first) (means_literal_small c.literals.new.store _ c.in_ok-first.second c.in_ok-first.ensures.second);
 }
 
 pub solved-requires-clause-fits : goal.solved-requires-clause-fits
@@ -25,7 +25,7 @@ solved-requires-clause-start c =
 
 pub returns-clause-least : goal.returns-clause-least
 returns-clause-least c =
-    least_ok c.solved.result c.solved.new.store _ _
+    least_same_ok c.solved.result c.solved.new.store _ _
     (literals_hold c.args.store.now c.literals.new.store c.combine.new.self c.literals.ensures.keeps c.combine.ensures.keeps c.args.op c.requires.op c.args.of.now.cells c.requires.fits c.args.of.now.first c.args.of.now.second
     c.requires.first c.requires.second c.in_ok-first.first c.in_ok-first.second c.in_ok-start.start c.in_ok-first.ensures.first c.in_ok-first.ensures.second c.in_ok-start.ensures.id)
     c.solved.ensures.least

@@ -3,7 +3,7 @@ use Rattle.diagrams.specs.Live.{Means}
 use Rattle.diagrams.proofs.Meaning.{live_lasts}
 use Rattle.obligations.proofs.Holds.{body_lasts}
 use Rattle.diagrams.specs.Eval.{literal_value}
-use Rattle.translate.proofs.JoinLemmas.{can_join, next_body, next_says, literal_truth}
+use Rattle.translate.proofs.JoinLemmas.{can_join, next_body, next_says, means_literal_small}
 use Rattle.translate.proofs.joins.with_next.Goals as goal
 
 pub combine-requires : goal.combine-requires
@@ -13,7 +13,7 @@ combine-requires c = record {
   fit =
       can_join c.literal.new.self c.args.op c.requires.op c.args.now c.in_ok-next.next
       (body_lasts c.args.store.now c.literal.new.self c.literal.ensures.keeps c.args.own c.args.now c.requires.now).truth
-      (literal_truth c.literal.new.self _ c.in_ok-next.next c.in_ok-next.ensures.id);
+      (means_literal_small c.literal.new.self _ c.in_ok-next.next c.in_ok-next.ensures.id);
 }
 
 pub returns-clause-body : goal.returns-clause-body

@@ -1,7 +1,7 @@
 use Rattle.translate.specs.Exact.{accepted}
-use Rattle.translate.proofs.LeastLemmas.{least_ok}
+use Rattle.translate.proofs.LeastLemmas.{least_same_ok}
 use Rattle.translate.proofs.OperatorLemmas.{repeated-always}
 use Rattle.translate.proofs.operators.always.Goals as goal
 
 pub returns-clause-least : goal.returns-clause-least
-returns-clause-least c = least_ok c.repeated_by.result c.repeated_by.new.store _ _ (repeated-always (accepted c.args.store.now c.args.a.now)) c.repeated_by.ensures.least
+returns-clause-least c = least_same_ok c.repeated_by.result c.repeated_by.new.store _ _ (repeated-always (accepted c.args.store.now c.args.a.now)) c.repeated_by.ensures.least

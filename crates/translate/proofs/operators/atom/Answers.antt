@@ -1,5 +1,5 @@
 use Rattle.std.proofs.Common.{length, ◌<◌, ◌+◌}
-use Rattle.translate.proofs.LeastLemmas.{least_ok}
+use Rattle.translate.proofs.LeastLemmas.{least_same_ok}
 use Rattle.translate.proofs.OperatorLemmas.{fits_none, atom_body, atom_holds}
 use Rattle.translate.proofs.operators.atom.Goals as goal
 
@@ -10,5 +10,5 @@ solved_with-requires c =
 
 pub returns-clause-least : goal.returns-clause-least
 returns-clause-least c =
-    least_ok c.solved_with.result c.solved_with.new.store _ _
+    least_same_ok c.solved_with.result c.solved_with.new.store _ _
     (atom_holds c.args.store.now c.literal.new.self c.literal.ensures.keeps c.new.result c.args.i c.in_ok-body.body c.new.ensures c.requires c.in_ok-body.ensures.id) c.solved_with.ensures.least

@@ -1,7 +1,7 @@
 use Rattle.std.proofs.Common.{subst, length}
 use Rattle.std.specs.Int.{from_bool}
 use Rattle.diagrams.specs.Live.{Means}
-use Rattle.translate.proofs.LeastLemmas.{least_ok}
+use Rattle.translate.proofs.LeastLemmas.{least_same_ok}
 use Rattle.translate.proofs.OperatorLemmas.{fits_none, constant_claim, constant_holds}
 use Rattle.translate.proofs.operators.constant.Goals as goal
 
@@ -13,4 +13,4 @@ solved-requires c =
 pub returns-clause-least : goal.returns-clause-least
 returns-clause-least c =
     let m : Means c.terminal.new.self c.in_ok-start.start (λ _. from_bool c.args.value) = subst (λ v. Means c.terminal.new.self c.in_ok-start.start (λ _. v)) c.from.ensures c.in_ok-start.ensures.id in
-    least_ok c.solved.result c.solved.new.store _ _ (constant_holds c.terminal.new.self c.new-cells.result c.args.value c.in_ok-start.start m) c.solved.ensures.least
+    least_same_ok c.solved.result c.solved.new.store _ _ (constant_holds c.terminal.new.self c.new-cells.result c.args.value c.in_ok-start.start m) c.solved.ensures.least

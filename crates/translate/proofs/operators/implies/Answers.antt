@@ -5,9 +5,9 @@ use Rattle.obligations.specs.Value.{cell}
 use Rattle.obligations.proofs.Holds.{fits_cells_lasts}
 use Rattle.translate.specs.Exact.{accepted}
 use Rattle.diagrams.specs.Eval.{literal_value}
-use Rattle.translate.proofs.LeastLemmas.{least_ok}
+use Rattle.translate.proofs.LeastLemmas.{least_same_ok}
 use Rattle.translate.proofs.StandingLemmas.{cell-stands}
-use Rattle.translate.proofs.JoinLemmas.{literal_truth}
+use Rattle.translate.proofs.JoinLemmas.{means_literal_small}
 use Rattle.translate.proofs.OperatorLemmas.{chosen_claim, chosen_holds}
 use Rattle.translate.proofs.operators.implies.Goals as goal
 
@@ -19,7 +19,7 @@ ite-requires c =
     let first = means_lasts m q c.terminal.ensures.keeps c.in_ok-first.first (literal_value (props + c.in_ok-of.of.first)) c.in_ok-first.ensures.first in
     let second = means_lasts m q c.terminal.ensures.keeps c.in_ok-first.second (literal_value (props + c.in_ok-of.of.second)) c.in_ok-first.ensures.second in
     record {
-      test = record { live = first.live; truth = literal_truth q (props + c.in_ok-of.of.first) c.in_ok-first.first first };
+      test = record { live = first.live; truth = means_literal_small q (props + c.in_ok-of.of.first) c.in_ok-first.first first };
       yes = second.live;
       no = c.in_ok-one.ensures.id.live;
     }
@@ -39,7 +39,7 @@ returns-clause-least c =
     let cells = c.in_ok-of.of.cells in
     let first = cell-stands s c.two_operands.ensures.keeps.now cells c.in_ok-of.of.first (accepted c.args.store.now c.args.a.now) c.in_ok-of.ensures.first in
     let second = cell-stands s c.two_operands.ensures.keeps.now cells c.in_ok-of.of.second (accepted c.args.store.now c.args.b.now) c.in_ok-of.ensures.second in
-    least_ok c.solved.result c.solved.new.store _ _
+    least_same_ok c.solved.result c.solved.new.store _ _
     (λ w.
     chosen_holds s c.literals.new.store c.terminal.new.self c.ite.new.self c.literals.ensures.keeps c.terminal.ensures.keeps c.ite.ensures.keeps cells c.in_ok-of.ensures.cells c.in_ok-of.of.first c.in_ok-of.of.second
     c.in_ok-of.ensures.first.within c.in_ok-of.ensures.second.within c.in_ok-first.first c.in_ok-first.second c.in_ok-one.one c.in_ok-start.start c.in_ok-first.ensures.first c.in_ok-first.ensures.second c.in_ok-one.ensures.id c.in_ok-start.ensures.id w

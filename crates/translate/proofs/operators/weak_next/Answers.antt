@@ -1,7 +1,7 @@
 use Rattle.translate.specs.Exact.{accepted}
-use Rattle.translate.proofs.LeastLemmas.{least_ok}
+use Rattle.translate.proofs.LeastLemmas.{least_same_ok}
 use Rattle.translate.proofs.OperatorLemmas.{stepped-weak_next}
 use Rattle.translate.proofs.operators.weak_next.Goals as goal
 
 pub returns-clause-least : goal.returns-clause-least
-returns-clause-least c = least_ok c.stepped_by.result c.stepped_by.new.store _ _ (stepped-weak_next (accepted c.args.store.now c.args.a.now)) c.stepped_by.ensures.least
+returns-clause-least c = least_same_ok c.stepped_by.result c.stepped_by.new.store _ _ (stepped-weak_next (accepted c.args.store.now c.args.a.now)) c.stepped_by.ensures.least

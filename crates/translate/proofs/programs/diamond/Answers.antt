@@ -8,7 +8,7 @@ use Rattle.obligations.proofs.Holds.{fits_cells_lasts}
 use Rattle.translate.specs.Exact.{accepted}
 use Rattle.diagrams.specs.Eval.{literal_value}
 use Rattle.translate.proofs.JoinLemmas.{literal_holds}
-use Rattle.translate.proofs.LeastLemmas.{least_ok}
+use Rattle.translate.proofs.LeastLemmas.{least_same_ok}
 use Rattle.translate.proofs.MeantLemmas.{tests_last}
 use Rattle.translate.proofs.programs.diamond.Goals as goal
 
@@ -31,7 +31,7 @@ returns-clause-least c =
     let x = program c.args.path.now in
     let start = subst (λ p. Means n c.in_ok-start.start (literal_value (p + j))) c.props-props.ensures.number c.in_ok-start.ensures.id in
     let props : o.props ≡ s.props = c.operand.ensures.keeps.extends.props in
-    least_ok c.solved.result c.solved.new.store _ _
+    least_same_ok c.solved.result c.solved.new.store _ _
     (λ w.
     literal_holds m n c.literal.ensures.keeps cells c.compile.ensures.fits j c.in_ok-leads.ensures.number c.in_ok-start.start start w
     ∙ c.in_ok-leads.ensures.leads w
