@@ -6,6 +6,7 @@ use Rattle.std.proofs.lemmas.Bool.{and_parts, and_from, and_left, and_right, or_
 use Rattle.forms.specs.Word.{Word, Claim, IsSuffix, whole, later, same, some_suffix, every_suffix}
 use Rattle.forms.specs.Paths.{WordRelation, reaches, reaches_further, one_step, star}
 use Rattle.forms.proofs.Suffixes.{same-refl, same-true}
+use Rattle.forms.proofs.Duals.{not-or}
 use Rattle.forms.proofs.Leads.{IsInward, reaches-find, reaches-from, reaches-step, reaches-test, reaches-choice, reaches-seq, reaches-star, star-unrolled}
 
 -- a suffix is no longer than the word
@@ -147,10 +148,6 @@ not-reaches q f u = go (q u) u
     one true false = refl
     one false b = refl
 
-    both : (a b : Bool) → not (a || b) ≡ (not a && not b)
-    both true b = refl
-    both false b = refl
-
     go : (g : Claim) (w : Word) → not (some_suffix (λ v. g v && not (f v)) w) ≡ every_suffix (λ v. not (g v) || f v) w
     go g [] = one (g []) (f [])
-    go g (a ∷ w) = both (g (a ∷ w) && not (f (a ∷ w))) (some_suffix (λ v. g v && not (f v)) w) ∙ rw (one (g (a ∷ w)) (f (a ∷ w)), go g w) refl
+    go g (a ∷ w) = sym (not-or (g (a ∷ w) && not (f (a ∷ w))) (some_suffix (λ v. g v && not (f v)) w)) ∙ rw (one (g (a ∷ w)) (f (a ∷ w)), go g w) refl

@@ -80,7 +80,7 @@ pub fits_cells_lasts : (s n : Diagrams) → Keeps s n → (c : List Obligation) 
 fits_cells_lasts s n k c f j h = body_lasts s n k (length c) (body_of c j) (f j h)
 
 -- one value beside a letter, where the obligations have one value
-joint-same : (p q letter : ℕ) (x y : ℕ → Bool) (count v : ℕ) → q ≡ p → ((j : ℕ) → j < count → x j ≡ y j) → v < p + count
+pub joint-same : (p q letter : ℕ) (x y : ℕ → Bool) (count v : ℕ) → q ≡ p → ((j : ℕ) → j < count → x j ≡ y j) → v < p + count
     → joint q letter x v ≡ joint p letter y v
 joint-same p q letter x y count v e same h =
     rw e (elim (cases_Bool (nat_lt v p)) [

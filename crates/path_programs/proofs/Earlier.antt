@@ -1,22 +1,13 @@
 -- Obligations that were there keep their value as the store and the table go on.
-use Rattle.std.proofs.Common.{◌≡◌, ℕ, ◌<◌, ◌+◌, ◌-◌, Bool, List, [], ◌∷◌, length, refl, ◌∙◌, ap, arith, inl, inr}
-use Rattle.std.specs.Prelude.{nat_lt, ◌==◌}
-use Rattle.std.proofs.lemmas.Bool.Decides.{nat_tests}
+use Rattle.std.proofs.Common.{◌≡◌, ℕ, ◌<◌, List, [], ◌∷◌, length, refl, ◌∙◌, ap, arith}
+use Rattle.std.specs.Prelude.{◌==◌}
 use Rattle.diagrams.specs.Tree.{Assignment}
 use Rattle.diagrams.specs.Eval.{Diagrams, eval}
-use Rattle.std.proofs.lemmas.Bool.{cases_Bool}
 use Rattle.obligations.specs.declared.cells.Obligation.{Obligation}
 use Rattle.obligations.specs.Value.{joint, cell, FitsCells}
 use Rattle.obligations.specs.Followed.{GoesOn}
-use Rattle.obligations.proofs.Holds.{cell-lasts, fits_cells_lasts}
+use Rattle.obligations.proofs.Holds.{cell-lasts, fits_cells_lasts, joint-same}
 use Rattle.path_programs.specs.Growth.{HasGrown}
-
-joint-before : (p letter : ℕ) (x y : ℕ → Bool) (count v : ℕ) → ((j : ℕ) → j < count → x j ≡ y j) → v < p + count → joint p letter x v ≡ joint p letter y v
-joint-before p letter x y count v same h =
-    elim (cases_Bool (nat_lt v p)) [
-      | inl t ↦ rw t refl
-      | inr t ↦ let l : v - p < count = grind (arith, nat_tests) in rw t (same (v - p) l)
-    ]
 
 -- the value of an obligation in a table that goes on
 pub cell-before : (s : Diagrams) (c d : List Obligation) → FitsCells s c → GoesOn c d → (word : List ℕ) (j : ℕ) → j < length c → cell s d word j ≡ cell s c word j
@@ -25,7 +16,7 @@ cell-before s c d f a (letter ∷ word) j h =
     let old : Assignment = joint s.props letter (cell s c word) in
     let new : Assignment = joint s.props letter (cell s d word) in
     ap (λ o. eval s o.body new == 1) (a.same j (omega arith) h)
-    ∙ ap (λ x. x == 1) ((f j h).over new old (λ v q. joint-before s.props letter (cell s d word) (cell s c word) (length c) v (λ i l. cell-before s c d f a word i l) q))
+    ∙ ap (λ x. x == 1) ((f j h).over new old (λ v q. joint-same s.props s.props letter (cell s d word) (cell s c word) (length c) v refl (λ i l. cell-before s c d f a word i l) q))
 
 -- the same as the store goes on too
 pub cell-grown : (s : Diagrams) (c : List Obligation) (n : Diagrams) (d : List Obligation) → FitsCells s c → HasGrown s c n d → (word : List ℕ) (j : ℕ) → j < length c → cell n d word j ≡ cell s c word j
