@@ -84,7 +84,7 @@ def row(*cells):
 def heading(title, *columns):
     print(f"\n### {title}\n")
     row(*columns)
-    row(*("---" for column in columns if column))
+    print("|" + "|".join("---" for column in columns if column) + "|", flush=True)
 
 
 RATIO, SAME = ("Ratio", "Same output") if BASELINE else (None, None)

@@ -141,6 +141,6 @@ needed_are_few p m words s order needed =
     (λ v l. n.least.least (get_or words v []) ((needed v [] (omega (arith, l, h))).least.over) (order v k [] l h))
     n.least.differ)
 
--- telling words are needed ones in order
+-- distinguishing words are needed ones in order
 pub telling_words_are_few : TellingWordsAreFew
 telling_words_are_few p m words s t = needed_are_few p m words s t.order t.needed

@@ -25,7 +25,7 @@ pub record IsTellingList (p : ℕ) (m : Moves) (words : List Word) : Type 0 wher
   pub needed : All (IsLeastForSome p m) words
   pub whole : (i j : ℕ) → i < m.size → j < m.size → i ≢ j → Any (IsLeastDistinguishing p m i j) words
 
--- there are fewer telling words than locations
+-- there are fewer distinguishing words than locations
 abbrev pub TellingWordsAreFew : Type 0
 TellingWordsAreFew = (p : ℕ) (m : Moves) (words : List Word) → 0 < m.size → IsTellingList p m words → length words + 1 ≤ m.size
 

@@ -1,4 +1,4 @@
-//! The telling words of an automaton.
+//! The distinguishing words of an automaton.
 ghost use Rattle.std.specs.Prelude.{◌≡◌, ◌<◌, ◌≤◌, ◌+◌, ◌↔◌, [], ◌∷◌, ◌++◌, false, true, IsTrue, EachIndex, All, length, map, slice_index, IfOk, OnOk};
 ghost use Rattle.diagrams.specs.Live.{Keeps};
 ghost use Rattle.automata.specs.Table.{size_of, Fits, moves_of};
