@@ -10,6 +10,7 @@ use Rattle.diagrams.specs.Branch.{split_value}
 use Rattle.diagrams.specs.Eval.{Diagrams, eval}
 use Rattle.diagrams.specs.Live.{Keeps, Means}
 use Rattle.diagrams.proofs.Meaning.{means_lasts}
+use Rattle.diagrams.proofs.Windows.{if_below}
 use Rattle.automata.specs.Table.{IsRow}
 use Rattle.automata.proofs.Lasts.{row_lasts}
 use Rattle.automata.proofs.FindingLemmas.{place_cases}
@@ -21,17 +22,13 @@ use Rattle.test_support.proofs.DiagramLemmas.{constant_depends}
 pub constant_row : (s : Diagrams) (size : ℕ) (i : Id) (x : ℕ) → x < size → Means s i (λ _. x) → IsRow s size i
 constant_row s size i x h m = record { live = m.live; letters = constant_depends s i x (λ v. v < s.props) m; targets = λ a. rw (m.value a) h }
 
-one_less : (b : Bool) (x y size : ℕ) → x < size → y < size → (if b then y else x) < size
-one_less true x y size h k = k
-one_less false x y size h k = h
-
 -- a row that goes by one proposition
 pub split_row : (s n : Diagrams) (size var x y : ℕ) (lo hi id : Id) → Means s lo (λ _. x) → Means s hi (λ _. y) → x < size → y < size → var < n.props
     → Means n id (split_value s var lo hi) → IsRow n size id
 split_row s n size var x y lo hi id l r h k v m = record {
   live = m.live;
   letters = λ a b same. both a ∙ ap (λ c. if c then y else x) (same var v) ∙ sym (both b);
-  targets = λ a. rw (both a) (one_less (a var) x y size h k);
+  targets = λ a. rw (both a) (if_below (a var) y x size k h);
 }
   where
     both : (a : Assignment) → eval n id a ≡ (if a var then y else x)
