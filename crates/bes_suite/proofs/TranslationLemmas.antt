@@ -3,14 +3,14 @@ use Rattle.std.proofs.Common.{◌≡◌, ℕ, ◌≤◌, List, [], suc, refl, sy
 use Rattle.std.specs.Prelude.{slice_index, All}
 use Rattle.std.proofs.lemmas.List.{ext_get_or}
 use Rattle.forms.specs.Tree.{Formula}
-use Rattle.forms.specs.Word.{Word}
+use Rattle.forms.specs.Word.{Word, IsOver}
 use Rattle.forms.specs.Equivalence.{HasClassCount}
 use Rattle.forms.specs.Parts.{part}
 use Rattle.forms.specs.Satisfaction.{meets}
 use Rattle.diagrams.specs.Eval.{Diagrams, eval}
 use Rattle.automata.specs.Table.{Table, size_of, row_of, Fits, moves_of}
 use Rattle.automata.specs.Listing.{Lists}
-use Rattle.minimise.specs.Minimal.{IsLeastFor, IsOnlyFor}
+use Rattle.minimise.specs.Minimal.{AreTheSame, IsLeastFor, IsOnlyFor}
 use Rattle.minimise.proofs.Counts.{size_is_class_count}
 use Rattle.minimise.proofs.Once.{class_count_is_one}
 use Rattle.minimise.proofs.Only.{least_is_only}
@@ -28,7 +28,7 @@ use Rattle.bes_suite.specs.declared.endings.Refusal.TheVariants as refused
 use Rattle.bes_suite.specs.Formulas.{IsFormula, names_of}
 use Rattle.bes_suite.specs.Worlds.{World, needs_nothing, NoOutputIsDue, Performs, KeepsCounts}
 use Rattle.bes_suite.specs.Limits.{most_classes, ending_at_limit}
-use Rattle.bes_suite.specs.Translation.{TranslateAnswers, too_many, translated, IsTranslation}
+use Rattle.bes_suite.specs.Translation.{TranslateAnswers, too_many, translated, IsTranslation, AgreeButForParts}
 use Rattle.bes_suite.proofs.Performing.{refusal, no-memory}
 use Rattle.bes_suite.specs.AutomatonText.{ListsMoves, automaton_text}
 use Rattle.bes_suite.proofs.TextLemmas.{lists-one}
@@ -44,19 +44,31 @@ counts-one p f xs ys x y =
 pub only-automaton : (names : List (List ℕ)) (f : Formula) (text : List ℕ) (t : IsTranslation names f text) → IsOnlyFor (length names) t.automaton (λ w. meets (length names) f w)
 only-automaton names f text t = least_is_only (length names) t.automaton (λ w. meets (length names) f w) t.least
 
+-- formulas with the same traces have texts that agree but for the lines of parts
+pub agree-but-for-parts : (names : List (List ℕ)) (f g : Formula) (xs ys : List ℕ) (x : IsTranslation names f xs) (y : IsTranslation names g ys)
+    → ((w : Word) → IsOver (length names) w → meets (length names) f w ≡ meets (length names) g w) → AgreeButForParts names f g xs ys x y
+agree-but-for-parts names f g xs ys x y same = record {
+  size = automata.size;
+  table = lists-one p x.automaton y.automaton automata x.table y.table x.lists y.lists;
+  words = telling_list_is_unique p x.automaton y.automaton x.words y.words x.least.least.closed automata x.telling y.telling;
+}
+  where
+    p : ℕ
+    p = length names
+
+    automata : AreTheSame p x.automaton y.automaton
+    automata = (only-automaton names g ys y).unique (λ w. meets p f w) x.automaton same x.least
+
 -- a formula has one text
 pub translation-one : (names : List (List ℕ)) (f : Formula) (xs ys : List ℕ) → IsTranslation names f xs → IsTranslation names f ys → xs ≡ ys
 translation-one names f xs ys x y =
-    let p = length names in
-    let counts = counts-one p f x.counts y.counts x.counted y.counted in
-    let automata = (only-automaton names f ys y).unique (λ w. meets p f w) x.automaton (λ w o. refl) x.least in
-    let words = telling_list_is_unique p x.automaton y.automaton x.words y.words x.least.least.closed automata x.telling y.telling in
-    let tables = lists-one p x.automaton y.automaton automata x.table y.table x.lists y.lists in
+    let counts = counts-one (length names) f x.counts y.counts x.counted y.counted in
+    let others = agree-but-for-parts names f f xs ys x y (λ w o. refl) in
     x.whole
     ∙ ap (λ z. automaton_text names f z x.automaton.size x.table x.words) counts
-    ∙ ap (λ z. automaton_text names f y.counts z x.table x.words) automata.size
-    ∙ ap (λ z. automaton_text names f y.counts y.automaton.size z x.words) tables
-    ∙ ap (λ z. automaton_text names f y.counts y.automaton.size y.table z) words
+    ∙ ap (λ z. automaton_text names f y.counts z x.table x.words) others.size
+    ∙ ap (λ z. automaton_text names f y.counts y.automaton.size z x.words) others.table
+    ∙ ap (λ z. automaton_text names f y.counts y.automaton.size y.table z) others.words
     ∙ sym y.whole
 
 -- a formula that is over the limit has no text

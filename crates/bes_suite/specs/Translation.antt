@@ -33,6 +33,13 @@ pub record IsTranslation (names : List (List ℕ)) (f : Formula) (text : List �
   pub lists : ListsMoves (length names) automaton table
   pub whole : text ≡ automaton_text names f counts automaton.size table words
 
+-- Two texts agree but for the lines of parts: their automata have one size, the same table and the same words that tell
+-- locations apart.
+pub record AgreeButForParts (names : List (List ℕ)) (f g : Formula) (text other : List ℕ) (t : IsTranslation names f text) (u : IsTranslation names g other) : Type 0 where
+  pub size : t.automaton.size ≡ u.automaton.size
+  pub table : t.table ≡ u.table
+  pub words : t.words ≡ u.words
+
 -- in the order of refusals: the formula, the limit
 pub data TranslateAnswers : Dialect → List ℕ → Reply → Type 0 where
   formula_refused : {dialect : Dialect} {text : List ℕ} {fault : FormFault} →

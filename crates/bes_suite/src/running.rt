@@ -1,10 +1,11 @@
 //! The top call.
 ghost use Rattle.std.specs.Prelude.{◌≡◌, ◌≢◌, ℕ, ◌<◌, ◌⊎◌, List, [], Some, None, IsTrue, false, length};
 ghost use Rattle.forms.specs.Tree.{Formula};
+ghost use Rattle.forms.specs.Word.{IsOver};
 ghost use Rattle.forms.specs.Satisfaction.{meets};
 ghost use Rattle.minimise.specs.Minimal.{IsOnlyFor};
 ghost use Rattle.bes_suite.specs.Replies.{Reply};
-ghost use Rattle.bes_suite.specs.Translation.{IsTranslation};
+ghost use Rattle.bes_suite.specs.Translation.{IsTranslation, AgreeButForParts};
 ghost use Rattle.bes_suite.specs.Commands.{command_of, reads_input, file_of};
 ghost use Rattle.bes_suite.specs.Results.{IsAnswered, Partial, HasFaultCause, HasMessageCause, CountsStand, LeavesMessage, IsUnread};
 ghost use Rattle.bes_suite.specs.Answers.{AnswersWith, MayRead, Contents};
@@ -90,6 +91,10 @@ pub fn run<F: Files, S: Source, O: Sink, E: Sink>(
     // the same traces, and no automaton of these traces is smaller.
     ensures only_automaton { (names : List (List ℕ)) (f : Formula) (text : List ℕ) (t : IsTranslation names f text) →
         IsOnlyFor (length names) t.automaton (λ w. meets (length names) f w) }
+
+    // The texts of two such formulas agree but for the lines of parts.
+    ensures only_text { (names : List (List ℕ)) (f g : Formula) (text other : List ℕ) (t : IsTranslation names f text) (u : IsTranslation names g other) →
+        ((w : List ℕ) → IsOver (length names) w → meets (length names) f w ≡ meets (length names) g w) → AgreeButForParts names f g text other t u }
 
     // Status 7 comes only where a count rose, and of the place for messages only where one was asked for.
     ensures fault { HasFaultCause (needs_of words.now) (MayRead words.now)

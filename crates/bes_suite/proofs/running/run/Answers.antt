@@ -1,7 +1,7 @@
 use Rattle.bes_suite.specs.Answers.{AnswersWith, MayRead}
 use Rattle.bes_suite.specs.Worlds.{world, needs_of}
 use Rattle.bes_suite.proofs.Unique.{one-reply}
-use Rattle.bes_suite.proofs.TranslationLemmas.{only-automaton}
+use Rattle.bes_suite.proofs.TranslationLemmas.{only-automaton, agree-but-for-parts}
 use Rattle.bes_suite.proofs.RunLemmas.{answers, message-cause, partly, answer-status}
 use Rattle.bes_suite.proofs.running.run.Goals as goal
 
@@ -34,6 +34,9 @@ returns-clause-unheard g c contents rest tells =
 
 pub returns-clause-only_automaton : goal.returns-clause-only_automaton
 returns-clause-only_automaton g c names f text t = only-automaton names f text t
+
+pub returns-clause-only_text : goal.returns-clause-only_text
+returns-clause-only_text g c names f h text other t u same = agree-but-for-parts names f h text other t u same
 
 pub returns-clause-ends : goal.returns-clause-ends
 returns-clause-ends g c = (c.perform-ending.result, c.finish.ensures.finishes, c.finish.ensures.asks)
