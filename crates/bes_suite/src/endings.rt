@@ -1,4 +1,4 @@
-//! What a run ends with.
+//! How a run ends: its ending, its status, and the message that it puts.
 ghost use Rattle.std.specs.Prelude.{◌≡◌, []};
 ghost use Rattle.bes_suite.specs.Endings.{status_of, refusal_status, message_of};
 ghost use Rattle.bes_suite.specs.Runs.{Finishes};
@@ -12,12 +12,12 @@ use spec_reader::EventFault;
 /// What was refused. Lines and places are counted from 1, places in bytes.
 #[derive(Clone, Copy, Debug, PartialEq, Eq)]
 pub enum Refusal {
-    /// The words are none of the listed forms.
+    /// The words aren't a command, a dialect and a formula.
     Usage,
-    /// The formula, at this place or as unfinished.
+    /// The formula is refused at this place, or as unfinished.
     Formula(FormFault),
-    /// This part of the formula, the whole coming last, is the first with more locations than a job may have, and it
-    /// has so many.
+    /// This part of the formula, counted from 1 and the whole after the last, is the first with more than 1,024 classes
+    /// of equivalent words, and it has so many.
     TooMany { part: u64, count: u32 },
     /// The input has no line.
     NoEvent,
@@ -25,27 +25,27 @@ pub enum Refusal {
     Event { line: u64, fault: EventFault },
     /// This line has more than 4,096 bytes.
     LineTooLong { line: u64 },
-    /// In this line the input passes its limit.
+    /// In this line the input passes its command's limit of bytes.
     InputTooLong { line: u64 },
 }
 
 /// How a run ends, before its message is put.
 #[derive(Clone, Copy, Debug, PartialEq, Eq)]
 pub enum Ending {
-    /// The answer is positive.
+    /// The trace meets the formula, for `monitor` so far; or the text that was asked for was put.
     Positive,
-    /// The answer is negative.
+    /// The trace doesn't meet the formula, for `monitor` so far.
     Negative,
-    /// Something was refused.
+    /// The words, the formula or the input is refused.
     Refused(Refusal),
-    /// The outside failed.
+    /// A file, the input or the output failed.
     OutsideFault,
-    /// There was no memory.
+    /// Memory ran out.
     NoMemory,
 }
 
-/// The status of a run: 0 and 1 for an answer, 2 to 5 for a refusal, 7 for a fault of the outside,
-/// 8 for want of memory.
+/// The status of a run: 0 and 1 for an answer, 2 to 5 for a refusal, 7 for a fault of a file, the input, the output or
+/// the place for messages, 8 for want of memory.
 #[derive(Clone, Copy, Debug, PartialEq, Eq)]
 pub struct Status {
     pub number: u8,
@@ -77,7 +77,8 @@ fn number(ending: Ending) -> u8
     }
 }
 
-/// Puts the message of the ending, if it has one, and answers the status.
+/// Puts the message of the ending, if it has one, and answers the status. Where the message can't be put that is 7, or 8
+/// for want of memory.
 pub fn finish<E: Sink>(ending: Ending, err: &mut E) -> Status
     ensures finishes { Finishes ending (E.held err.old) (E.faults err.old) (E.held err.new) (E.faults err.new) result.number }
     ensures quiet { message_of ending ≡ [] → err.new ≡ err.old }

@@ -1,4 +1,4 @@
-//! The top call.
+//! The top call, which does all that the program does.
 ghost use Rattle.std.specs.Prelude.{◌≡◌, ◌≢◌, ℕ, ◌<◌, ◌⊎◌, List, [], Some, None, IsTrue, false, length};
 ghost use Rattle.forms.specs.Tree.{Formula};
 ghost use Rattle.forms.specs.Word.{IsOver};
@@ -24,7 +24,7 @@ use crate::translation::translate_formula;
 use bes_io::{Files, Sink, Source, Word};
 use std::alloc::Global;
 
-/// Does what the words ask for, but for the message.
+/// Does what the words ask for, and tells how the run ends. It puts no message.
 fn perform<F: Files, S: Source, O: Sink>(
     alloc: Global,
     words: &[Word],
@@ -76,8 +76,8 @@ pub fn run<F: Files, S: Source, O: Sink, E: Sink>(
     out: &mut O,
     err: &mut E,
 ) -> Status
-    // Each status but 7 and 8 is that of what the words, the named file and the input ask for, with its output and its
-    // message. What they ask for is one thing, so each comes exactly where it is asked for.
+    // Where the named file and the input tell what they hold, each status but 7 and 8 is the one that they and the words
+    // ask for, with its output and its message. They ask for one thing, so nothing but 7 and 8 comes in its place.
     ensures answers { (contents : Contents) (rest : List ℕ) →
         Tells (needs_of words.now) (MayRead words.now) (world (F.contents files.old) (F.failed files.old) (S.left input.old) (S.faults input.old) (O.held out.old) (O.faults out.old)) contents rest →
         IsAnswered (AnswersWith words.now contents rest)
@@ -96,7 +96,8 @@ pub fn run<F: Files, S: Source, O: Sink, E: Sink>(
     ensures only_text { (names : List (List ℕ)) (f g : Formula) (text other : List ℕ) (t : IsTranslation names f text) (u : IsTranslation names g other) →
         ((w : List ℕ) → IsOver (length names) w → meets (length names) f w ≡ meets (length names) g w) → AgreeButForParts names f g text other t u }
 
-    // Status 7 comes only where a count rose, and of the place for messages only where one was asked for.
+    // Status 7 comes only where a count of faults rose, or stands at its end, 2^64 - 1, or the named file failed: of the
+    // input only where it came to be asked, of the place for messages only where a message was asked for.
     ensures fault { HasFaultCause (needs_of words.now) (MayRead words.now)
         (world (F.contents files.old) (F.failed files.old) (S.left input.old) (S.faults input.old) (O.held out.old) (O.faults out.old))
         (world (F.contents files.new) (F.failed files.new) (S.left input.new) (S.faults input.new) (O.held out.new) (O.faults out.new))
@@ -116,16 +117,16 @@ pub fn run<F: Files, S: Source, O: Sink, E: Sink>(
         (world (F.contents files.new) (F.failed files.new) (S.left input.new) (S.faults input.new) (O.held out.new) (O.faults out.new))
         result.number }
 
-    // Where no output is due, the output isn't asked. Whether or not the outside tells, it isn't asked before want of
-    // memory, nor, by a command that doesn't write as it reads, where the input's count of faults rose.
+    // Where no output is due, the output stays. Whether or not the outside tells what it holds, it stays where memory ran
+    // out and, but for a command that writes as it reads, where the input's count of faults rose.
     ensures silent { (contents : Contents) (rest : List ℕ) →
         Tells (needs_of words.now) (MayRead words.now) (world (F.contents files.old) (F.failed files.old) (S.left input.old) (S.faults input.old) (O.held out.old) (O.faults out.old)) contents rest →
         NoOutputIsDue (AnswersWith words.now contents rest) → out.new ≡ out.old }
     ensures nothing { result.number ≡ 8 → out.new ≡ out.old }
     ensures unwritten { is_streaming (command_of words.now) ≡ false → S.faults input.old < S.faults input.new → out.new ≡ out.old }
 
-    // A whole output is put in one call, that of a reply which is asked for, and after an answer it was
-    // put. `monitor` puts each line in one call.
+    // But for `monitor` the output is put whole, in one call at most; it is the output of what is asked for, and after 0
+    // and 1 it was put. `monitor` puts each line in one call.
     ensures once { is_streaming (command_of words.now) ≡ false → IsPutOnce O.IsPut out.old out.new }
     ensures written { (contents : Contents) (rest : List ℕ) →
         Tells (needs_of words.now) (MayRead words.now) (world (F.contents files.old) (F.failed files.old) (S.left input.old) (S.faults input.old) (O.held out.old) (O.faults out.old)) contents rest →
@@ -133,9 +134,9 @@ pub fn run<F: Files, S: Source, O: Sink, E: Sink>(
     ensures lines { IsTrue (is_streaming (command_of words.now)) → PutsLines O.IsPut out.old out.new }
 
     // Where the input's count of faults rose, a command that writes as it reads has put what is due for the whole lines
-    // that were taken. Where the output's count rose, it failed at one line: what is due for the lines before the one
-    // that it needs was put, and fewer than 4,097 bytes were taken past that one. Once such a command reads, it takes
-    // no memory.
+    // that were taken. Where the output's count rose, it failed at the output of one line: what is due for the lines
+    // before it was put, and a prefix of its own, and fewer than 4,097 bytes were taken past it. Such a command runs out of
+    // memory only before it takes a byte.
     ensures streams { (contents : Contents) (rest : List ℕ) →
         Tells (needs_of words.now) (MayRead words.now) (world (F.contents files.old) (F.failed files.old) (S.left input.old) (S.faults input.old) (O.held out.old) (O.faults out.old)) contents rest →
         IfNeeded (is_streaming (command_of words.now)) (Streams (AnswersWith words.now contents) rest
@@ -151,28 +152,27 @@ pub fn run<F: Files, S: Source, O: Sink, E: Sink>(
         result.number }
     ensures messages { result.number ≢ 7 → result.number ≢ 8 → E.faults err.new ≡ E.faults err.old }
 
-    // The run ends in some way, whose status it answers and whose message it puts in one call, whole but
-    // at a fault; where there is none it makes no call.
+    // The run has an ending, whose status it answers and whose message it puts in one call, or makes none where there is
+    // no message. Where that call fails a prefix was put, and the status is 7, or 8 for want of memory.
     ensures ends { (ending : Ending) × Finishes ending (E.held err.old) (E.faults err.old) (E.held err.new) (E.faults err.new) result.number
         × Asks E.IsPut (message_of ending) err.old err.new }
 
-    // After 7 and 8 the message of the status was put, or at a fault a prefix of one message; after an answer none
-    // was.
+    // After 7 and 8 the message of the status was put, or, where the place for messages failed, a prefix of one message;
+    // after 0 and 1 none was put.
     ensures message { LeavesMessage (E.held err.old) (E.held err.new) (E.faults err.old) (E.faults err.new) result.number }
     ensures quiet { result.number < 2 → err.new ≡ err.old }
 
-    // Wrong words are told whatever memory there is.
+    // Words that aren't a command, a dialect and a formula are refused whatever memory there is, but for 7.
     ensures usage { command_of words.now ≡ Command.Usage → (result.number ≡ 2) ⊎ (result.number ≡ 7) }
 
-    // The names that failed gain the named file at most, and the files stay where the words don't ask for one. The
-    // input stays where its formula or file isn't accepted, which is so after a refusal of the words, a formula or a
-    // limit.
+    // The names that failed gain the named file at most, and the files stay where the words name none. The input stays
+    // where the command reads none, and where the words, the formula or its class counts are refused.
     ensures gains { Gains (file_of (command_of words.now) words.now) (F.failed files.old) (F.failed files.new) }
     ensures unopened { file_of (command_of words.now) words.now ≡ None → files.new ≡ files.old }
     ensures early { IsUnread result.number → ¬ MayRead words.now }
     ensures unread { ¬ MayRead words.now → input.new ≡ input.old }
 
-    // After an answer an input that is read was read to its end.
+    // After 0 and 1 a command that reads the input has read it to its end.
     ensures whole { IsTrue (reads_input (command_of words.now)) → result.number < 2 →
         (rest : List ℕ) → S.left input.old ≡ Some rest → S.left input.new ≡ Some [] }
 {
