@@ -1,6 +1,6 @@
 //! The formula of a command line.
-ghost use Rattle.std.specs.Prelude.{◌≡◌, ◌<◌, ◌^◌, IfOk, IfErr, length};
-ghost use Rattle.forms.specs.Tree.{tree, nodes};
+ghost use Rattle.std.specs.Prelude.{◌≡◌, IfOk, IfErr, length};
+ghost use Rattle.forms.specs.Tree.{tree};
 ghost use Rattle.forms.specs.Proper.{IsProper};
 ghost use Rattle.bes_suite.specs.Formulas.{IsFormula, names_of, fault_ending, EndsAtFormula};
 
@@ -29,7 +29,6 @@ fn formula_ending(fault: FormFault) -> Ending
 pub fn read_formula(alloc: Global, dialect: Dialect, text: &[u8]) -> Result<(Form, Names), Ending>
     ensures formula { IfOk result (λ read. IsFormula dialect text.now (tree read.0)) }
     ensures names { IfOk result (λ read. read.1.names ≡ names_of dialect text.now) }
-    ensures small { IfOk result (λ read. nodes (tree read.0) < 2 ^ 32) }
     ensures proper { IfOk result (λ read. IsProper (length read.1.names) (tree read.0)) }
     ensures ending { IfErr result (λ ending. EndsAtFormula dialect text.now ending) }
 {

@@ -1,6 +1,6 @@
 //! The command `monitor`.
-ghost use Rattle.std.specs.Prelude.{◌≡◌, ◌≢◌, ℕ, ◌<◌, ◌^◌, List, length, Option, Some, IfOk, OnOk, IfErr};
-ghost use Rattle.forms.specs.Tree.{Formula, tree, nodes};
+ghost use Rattle.std.specs.Prelude.{◌≡◌, ◌≢◌, ℕ, List, length, Option, Some, IfOk, OnOk, IfErr};
+ghost use Rattle.forms.specs.Tree.{Formula, tree};
 ghost use Rattle.forms.specs.Proper.{IsProper};
 ghost use Rattle.bes_io.specs.Causes.{HasCause};
 ghost use Rattle.bes_io.specs.Streams.{Puts};
@@ -40,7 +40,6 @@ struct Opened {
 /// A monitor of the formula's traces. Nothing below takes memory once it is opened.
 fn open(alloc: Global, form: &Form, names: &Names) -> Result<Opened, TranslateFault>
     requires proper { IsProper (length names.now.names) (tree form.now) }
-    requires small { nodes (tree form.now) < 2 ^ 32 }
     ensures opened { IfOk result (λ opened. IsOpened opened.store opened.monitor names.now.names (tree form.now)) }
     ensures within { OnOk result (AreWithin names.now.names (tree form.now)) }
     ensures fault { IfErr result (λ fault. IfTooMany fault (IsFirstOver (length names.now.names) (tree form.now) most_classes)) }

@@ -1,6 +1,6 @@
 //! The command `translate`.
-ghost use Rattle.std.specs.Prelude.{◌≡◌, ◌<◌, ◌^◌, ℕ, List, length, Option, MatchResult};
-ghost use Rattle.forms.specs.Tree.{tree, nodes};
+ghost use Rattle.std.specs.Prelude.{◌≡◌, ℕ, List, length, Option, MatchResult};
+ghost use Rattle.forms.specs.Tree.{tree};
 ghost use Rattle.forms.specs.Proper.{IsProper};
 ghost use Rattle.translate.specs.Counting.{IfTooMany, IsFirstOver};
 ghost use Rattle.bes_suite.specs.Limits.{most_classes};
@@ -27,7 +27,6 @@ use translate::{TranslateFault, translate};
 /// The text of the formula's automaton.
 fn translation_text(alloc: Global, form: &Form, names: &Names) -> Result<Text, TranslateFault>
     requires proper { IsProper (length names.now.names) (tree form.now) }
-    requires small { nodes (tree form.now) < 2 ^ 32 }
     ensures { MatchResult result (λ text. IsTranslation names.now.names (tree form.now) text)
         (λ fault. IfTooMany fault (IsFirstOver (length names.now.names) (tree form.now) most_classes)) }
 {
