@@ -1,5 +1,5 @@
 //! Output that is held back until the program asks for more input, puts a message, or ends.
-ghost use Rattle.std.specs.Prelude.{◌≡◌, ◌⊎◌};
+ghost use Rattle.std.specs.Prelude.{◌≡◌, ◌≢◌, ◌⊎◌, codes};
 ghost use Rattle.std.specs.Io.{WritesAtMost};
 
 use bes_io::Sink;
@@ -124,8 +124,10 @@ pub fn close<W: Write + Drop, E: Sink>(held: &HeldOutput<W>, err: &mut E, status
     ensures status { (result ≡ status.number) ⊎ (result ≡ 7) }
     ensures memory { status.number ≡ 8 → result ≡ 8 }
 
-    // A message is put only where the status changes, and a fault that was told isn't told again.
+    // The message of a fault is put where the status changes, in one call, and nowhere else: a fault that was told isn't
+    // told again.
     ensures quiet { result ≡ status.number → err.new ≡ err.old }
+    ensures told { result ≢ status.number → E.IsPut err.old (codes "bes: outside fault\n") err.new }
 {
     match (held.flush(), status.number) {
         (Err(_), 0..=6) => {
