@@ -42,7 +42,7 @@ pub over-word_of : (p : ℕ) (w : Word) → IsOver p (word_of p w)
 over-word_of p [] = over-nil p
 over-word_of p (a ∷ w) = over-cons p (letter_of p a) (word_of p w) (spelt-less (letter_truth p a) p) (over-word_of p w)
 
--- it has the same propositions
+-- the letter with the same bits has the same propositions
 pub letter_of-truth : (p a : ℕ) → letter_truth p (letter_of p a) ≡ letter_truth p a
 letter_of-truth p a = fun_ext (λ i. elim (cases_lt i p) [
   | inl h ↦ spelt-truth (letter_truth p a) p i h

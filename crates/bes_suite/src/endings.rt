@@ -12,7 +12,7 @@ use spec_reader::EventFault;
 /// What was refused. Lines and places are counted from 1, places in bytes.
 #[derive(Clone, Copy, Debug, PartialEq, Eq)]
 pub enum Refusal {
-    /// The words aren't a command, a dialect and a formula.
+    /// The words aren't three, a command and a dialect first.
     Usage,
     /// The formula is refused at this place, or as unfinished.
     Formula(FormFault),

@@ -162,7 +162,7 @@ pub fn run<F: Files, S: Source, O: Sink, E: Sink>(
     ensures message { LeavesMessage (E.held err.old) (E.held err.new) (E.faults err.old) (E.faults err.new) result.number }
     ensures quiet { result.number < 2 → err.new ≡ err.old }
 
-    // Words that aren't a command, a dialect and a formula are refused whatever memory there is, but for 7.
+    // Words that aren't three, a command and a dialect first, are refused whatever memory there is: the status is 2, or 7.
     ensures usage { command_of words.now ≡ Command.Usage → (result.number ≡ 2) ⊎ (result.number ≡ 7) }
 
     // The names that failed gain the named file at most, and the files stay where the words name none. The input stays

@@ -16,7 +16,7 @@ use crate::formulas::read_formula;
 use crate::limits::{MOST_CLASSES, limit_ending};
 use crate::putting::put_all;
 use automata::print_table;
-use bes_io::{Memory, Sink, Text};
+use bes_io::{Sink, Text};
 use diagrams::Store;
 use distinguish::telling_words;
 use form_reader::{Dialect, Names};

@@ -12,7 +12,8 @@ use Rattle.distinguish.specs.declared.telling.Refinement.{Refinement}
 use Rattle.distinguish.specs.Telling.{IsLeastDistinguishing, IsLeastForSome}
 use Rattle.distinguish.specs.Columns.{AreColumns}
 
--- blocks that words of fewer than so many letters divide, those of the telling list among these in order, and the marks after them
+-- blocks that words of fewer than so many letters divide, those of the list of distinguishing words among
+-- these in order, and the marks after them
 pub record IsDividedByWords (p : ℕ) (m : Moves) (blocks : List ℕ) (words : List Word) (columns : List (List ℕ)) : Type 0 where
   pub closed : IsClosed p m
   pub letters : ℕ

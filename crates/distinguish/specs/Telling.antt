@@ -29,7 +29,7 @@ pub record IsTellingList (p : ℕ) (m : Moves) (words : List Word) : Type 0 wher
 abbrev pub TellingWordsAreFew : Type 0
 TellingWordsAreFew = (p : ℕ) (m : Moves) (words : List Word) → 0 < m.size → IsTellingList p m words → length words + 1 ≤ m.size
 
--- automata with the same marks and moves have one telling list
+-- automata with the same marks and moves have one list of distinguishing words
 abbrev pub TellingListIsUnique : Type 0
 TellingListIsUnique = (p : ℕ) (m n : Moves) (words others : List Word) → IsClosed p m → AreTheSame p m n
     → IsTellingList p m words → IsTellingList p n others → words ≡ others

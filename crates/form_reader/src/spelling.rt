@@ -282,7 +282,8 @@ pub fn next(dialect: Dialect, text: &[u8], from: usize, in_word: bool) -> Option
     next_apart(dialect, text, from)
 }
 
-/// At each place the longest token is taken: the longest sign of the dialect, or the longest word. It does nothing when it runs.
+/// At each place the longest token is taken: the longest sign of the dialect, or the longest word. The function does
+/// nothing when it runs.
 pub fn laws_of_tokens()
     ensures { TakesLongestTokens }
 {}

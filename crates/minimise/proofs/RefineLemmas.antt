@@ -83,6 +83,7 @@ module _ (s n : Diagrams) (t : Table) (old : List ℕ) (keys : List Key) (new : 
         p.once (slice_index new i) (slice_index new j) _ (p.key i h ∙ x) (p.key j l ∙ one);
   }
 
+  -- so the new blocks come of the old ones by one round
   pub round_made : IsRound s.props (moves_of s t) (slice_index old) (slice_index new)
   round_made = round_lasts s n t (slice_index old) (slice_index new) k f (rows_make_round n t (slice_index old) (slice_index new) ids k.now (fits_lasts s n k t f) relabelled goes)
 
@@ -109,6 +110,7 @@ module _ (s m n : Diagrams) (t : Table) (blocks : List ℕ) (count : ℕ) (keys 
       round_divides s.props (moves_of s t) r.rounds (slice_index blocks) (slice_index next) (fits_closed s t first f) r.divided
       (round_made s n t blocks keys next kinds grown f keys-now p)
 
+  -- a round makes no fewer blocks, and leaves them as they are where it makes as many
   pub no_coarser : (count ≤ length kinds) × (count ≡ length kinds → (i : ℕ) → i < size_of t → slice_index blocks i ≡ slice_index next i)
   no_coarser =
       let c = finer_has_more (slice_index next) (slice_index blocks) (size_of t) p.order r.order
@@ -169,12 +171,15 @@ row-map (x ∷ ks) (suc i) k e = row-map ks i k e
 
 module _ (s n : Diagrams) (t q : Table) (blocks : List ℕ) (kinds : List Key) (f : Fits s t) (k : Keeps s n) (r : IsRefined s n t blocks kinds)
     (first : q.first ≡ slice_index blocks t.first) (marks : q.marks ≡ map (λ x. x.mark) kinds) (rows : q.rows ≡ map (λ x. x.row) kinds) where
+  -- the merged automaton has a location for each kind
   pub size-is : size_of q ≡ length kinds
   size-is = ap length rows ∙ length-map kinds (λ x. x.row)
 
+  -- the block of each location is one of its locations
   pub block-within : (i : ℕ) → i < size_of t → slice_index blocks i < size_of q
   block-within i h = rw (size-is, ← r.partition.number) (within (slice_index blocks) (size_of t) i r.partition.order h)
 
+  -- and each of these is the block of some location
   pub has_member : (b : ℕ) → b < size_of q → (i : ℕ) × (i < size_of t) × (slice_index blocks i ≡ b)
   has_member b h = member (slice_index blocks) (size_of t) b r.partition.order (rw (r.partition.number) (rw size-is at h))
 
@@ -200,9 +205,11 @@ module _ (s n : Diagrams) (t q : Table) (blocks : List ℕ) (kinds : List Key) (
         targets = λ a. rw (m.value a) (block-within (eval s (row_of t i) a) ((f i h).targets a));
       }
 
+  -- the merged automaton fits the store
   pub merged_fits : Fits n q
   merged_fits b h = let i = has_member b h in subst (λ z. IsRow n (size_of q) (row_of q z)) i.2 (row-fits i.0 i.1)
 
+  -- and is the quotient by the blocks
   pub merged_quotient : IsQuotient s.props (moves_of s t) (moves_of n q) (slice_index blocks)
   merged_quotient = record {
     first = first;

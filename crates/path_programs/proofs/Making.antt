@@ -14,7 +14,7 @@ use Rattle.obligations.specs.Value.{IsClaim, IsBody}
 use Rattle.path_programs.specs.Made.{IsOneWhere}
 use Rattle.diagrams.proofs.Literals.{number_small, min-and, max-or, literal_small, literal_one}
 
--- one number of a truth value is another where the values agree
+-- two numbers below 2 are equal exactly where both are 1 or neither is
 pub equal-agree : (x y : ℕ) → x < 2 → y < 2 → ((if x == y then 1 else 0) == 1) ≡ agree (x == 1) (y == 1)
 equal-agree zero zero h k = refl
 equal-agree zero (suc zero) h k = refl

@@ -27,8 +27,9 @@ pub struct Translated {
     pub whole: Automaton,
 }
 
-/// The least automaton of a formula's traces, with the class count of each part (Nerode 1958). Goes one level deeper
-/// for each level of the tree.
+/// The least automaton of a formula's traces, with the class count of each part (Nerode 1958). Each part and the whole may
+/// have at most `limit` classes; any limit is allowed, and 0 refuses part 1. Goes one level deeper for each level of the
+/// tree.
 pub fn translate(
     alloc: Global,
     store: &mut Store,
