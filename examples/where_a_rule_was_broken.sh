@@ -1,0 +1,1 @@
+while read -r rule; do at=$(tr -c 'A-Za-z_\n' ' ' < examples/order.log | bes monitor ltlf "$rule" | grep -n -m 1 perm_false | cut -d : -f 1); [ -z "$at" ] || echo "event $at breaks $rule: $(sed -n "${at}p" examples/order.log)"; done < examples/order.rules
