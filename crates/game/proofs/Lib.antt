@@ -1,0 +1,16 @@
+pub mod Rounds
+pub mod LetterLemmas
+pub mod LeastLemmas
+pub mod WinningLemmas
+pub mod Simulation
+pub mod SimulatedDuty
+pub mod SimulatedPlay
+pub mod Hope
+pub mod SimulatedMarks
+pub mod HistoryLemmas
+pub mod KindLemmas
+pub mod ArenaLemmas
+pub mod ArenaPlay
+pub mod AlikeLemmas
+pub mod SameLemmas
+pub mod BoundLemmas

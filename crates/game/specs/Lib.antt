@@ -1,0 +1,14 @@
+pub mod Board
+pub mod Winning
+pub mod Following
+pub mod Playable
+pub mod Playing
+pub mod Marks
+pub mod Letter
+pub mod Values
+pub mod Histories
+pub mod Kinds
+pub mod Arena
+pub mod Simulates
+pub mod Same
+pub mod Alike
