@@ -3,6 +3,7 @@ use Rattle.std.proofs.Common.{◌≡◌, ◌<◌, ◌^◌, ◌+◌, ◌↔◌, �
 use Rattle.std.proofs.lemmas.Bool.{cases_Bool, lt-ltb, ltb-true}
 use Rattle.std.proofs.lemmas.Nat.{pow_pos}
 use Rattle.automata.proofs.Words.{over-push}
+use Rattle.std.proofs.lemmas.Option.{same_Some}
 use Rattle.forms.specs.Word.{Word, Claim}
 use Rattle.game.specs.Board.{Mover, Agent, Environment, width}
 use Rattle.game.specs.Histories.{Aims, IsDone, IsLegalRound, IsInputLegal, IsDecisionAt, histories, is_given, one_more}
@@ -71,6 +72,13 @@ leads-less p m h at r a x y =
     let b = from-less m 0 r h a y.leads in
     let e : b.location ≡ at = let f : Some b.location ≡ Some at = sym b.leads ∙ x.leads in cc in
     (subst (λ q. m.next q a < m.size) e b.within, b.next ∙ ap (λ q. m.next q a) e)
+
+-- a walk stays among the locations
+pub walk-within : (m : Locations) (at q : ℕ) (w : Word) → at < m.size → location_from m at w ≡ Some q → q < m.size
+walk-within m at q [] l e = subst (λ z. z < m.size) (same_Some at q e) l
+walk-within m at q (a ∷ w) l e =
+    let p = step_some (m.is_goal at) (nat_lt (m.next at a) m.size) (location_from m (m.next at a) w) q e in
+    walk-within m (m.next at a) q w (ltb-true (m.next at a) m.size p.1) p.2
 
 -- at a location that isn't a goal the goal isn't met
 unmet_there : (s : Aims) (m : Locations) → IsArenaOf s m → (h : Word) (at : ℕ) → LeadsTo (width s.parts) m h at → ¬ IsDone s h → m.is_goal at ≡ false

@@ -1,7 +1,7 @@
 -- Where the goal can be met at all, no strategy that wins where it can loses all hope of it.
 use Rattle.std.proofs.Common.{◌⊎◌, ℕ, zero, suc, inl, inr}
 use Rattle.game.specs.Board.{Partition, Board, decision_of, output_of}
-use Rattle.game.specs.Winning.{WinsWithin, ReachesWithin, CanMeetWithin, DecisionWinsWithin}
+use Rattle.game.specs.Winning.{WinsWithin, ReachesWithin, CanMeetWithin, CanMeetFrom, DecisionWinsWithin, DecisionReachesWithin}
 use Rattle.game.specs.Playable.{IsPlayable}
 use Rattle.game.proofs.Rounds.{output_small, own_round}
 
@@ -72,3 +72,18 @@ hope_is_meeting {s = s} b I p decided (suc n) h i (inr (x, d, inr (never, y, o, 
       | inl m ↦ inl m
       | inr unmet ↦ inr (a, round.letter, l, hope_is_meeting b I p decided n (b.after h a) (p.kept h i unmet a round.letter l) w)
     ]
+
+-- the same from a decision
+pub winning_is_meeting_from : {s : Partition} (b : Board s) (I : b.Place → Type 0) → IsPlayable b I → ((h : b.Place) → I h → b.IsMet h ⊎ (¬ b.IsMet h))
+    → (n : ℕ) (h : b.Place) (x : ℕ) → I h → ¬ b.IsMet h → b.IsDecision h x → DecisionWinsWithin b n h x → CanMeetFrom b n h x
+winning_is_meeting_from b I p decided zero h x i unmet d w = absurd w.2
+winning_is_meeting_from b I p decided (suc n) h x i unmet d (y, o, w) =
+    let r = p.goes_on h i unmet x y d o in
+    (y, o, (r.0, r.1, r.2, winning_is_meeting b I p decided n (b.after h r.0) (p.kept h i unmet r.0 r.1.letter r.2) (w r.0 r.1 r.2)))
+
+pub hope_is_meeting_from : {s : Partition} (b : Board s) (I : b.Place → Type 0) → IsPlayable b I → ((h : b.Place) → I h → b.IsMet h ⊎ (¬ b.IsMet h))
+    → (n : ℕ) (h : b.Place) (x : ℕ) → I h → ¬ b.IsMet h → b.IsDecision h x → DecisionReachesWithin b n h x → CanMeetFrom b n h x
+hope_is_meeting_from b I p decided zero h x i unmet d w = absurd w
+hope_is_meeting_from b I p decided (suc n) h x i unmet d (inl w) = winning_is_meeting_from b I p decided (suc n) h x i unmet d w
+hope_is_meeting_from b I p decided (suc n) h x i unmet d (inr (never, y, o, (a, round, l, w))) =
+    (y, o, (a, round, l, hope_is_meeting b I p decided n (b.after h a) (p.kept h i unmet a round.letter l) w))

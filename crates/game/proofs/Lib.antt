@@ -14,3 +14,4 @@ pub mod ArenaPlay
 pub mod AlikeLemmas
 pub mod SameLemmas
 pub mod BoundLemmas
+pub mod AnyDuty

@@ -2,12 +2,13 @@
 use Rattle.std.proofs.Common.{◌≡◌, ◌<◌, ◌^◌, ◌+◌, ◌++◌, [], ◌∷◌, ℕ, inl, inr, refl, sym, ◌∙◌, ap, subst, Option, Some, None}
 use Rattle.forms.specs.Word.{Word, Claim, IsOver}
 use Rattle.automata.proofs.Words.{over-nil, over-head, over-tail, over-cons, over-append, over-push}
-use Rattle.game.specs.Board.{Mover, Agent, Environment, Partition, width}
-use Rattle.game.specs.Histories.{Aims, IsViolated, IsDone, IsKeepable, ViolatesWithin, IsLegalRound, IsLegalHistory, IsRunning, IsMetFirst, IsLive, ShareLocation, Kind, Running, Broken, Met, Past, Illegal, HasKind, violation, one_more}
+use Rattle.game.specs.Board.{Mover, Agent, Environment, Partition, width, IsLeastNumber}
+use Rattle.game.specs.Histories.{Aims, IsViolated, IsDone, IsKeepable, ViolatesWithin, IsLegalRound, IsLegalHistory, IsRunning, IsMetFirst, IsLive, ShareLocation, Kind, Running, Broken, Met, Past, Illegal, HasKind, violation, one_more, is_given}
 use Rattle.game.specs.Arena.{Locations, IsArenaOf}
 use Rattle.game.specs.Simulates.{Simulates}
-use Rattle.game.specs.Same.{AgreeOver, AgreeWhere}
+use Rattle.game.specs.Same.{AgreeOver, AgreeWhere, Claims, aims_with, Agree}
 use Rattle.game.proofs.Simulation.{wins}
+use Rattle.game.proofs.SimulatedMarks.{least_same}
 use Rattle.game.proofs.HistoryLemmas.{violated_or_not}
 
 -- a prefix of a word over p propositions
@@ -29,28 +30,14 @@ violated_same p None q e h o x = elim x [ ]
 violated_same p (Some c) None e h o x = elim e [ ]
 violated_same p (Some c) (Some d) e h o (u, v, f, some, no_more) = (u, v, f, some, sym (e u (prefix_of p h u v o f)) ∙ no_more)
 
--- what is asked, whoever moves how
-pub record Asked : Type 0 where
-  pub goal : Claim
-  pub assumed : Option Claim
-  pub duty : Option Claim
-
-abbrev pub aims : Partition → Asked → Aims
-aims p x = record { parts = p; goal = x.goal; assumed = x.assumed; duty = x.duty }
-
-pub record AreSame (p : Partition) (x y : Asked) : Type 0 where
-  pub goal : AgreeOver (width p) x.goal y.goal
-  pub assumed : AgreeWhere (width p) x.assumed y.assumed
-  pub duty : AgreeWhere (width p) x.duty y.duty
-
-pub same_turned : (p : Partition) (x y : Asked) → AreSame p x y → AreSame p y x
+pub same_turned : (p : Partition) (x y : Claims) → Agree (width p) x y → Agree (width p) y x
 same_turned p x y r = record { goal = λ w o. sym (r.goal w o); assumed = agree_turned (width p) x.assumed y.assumed r.assumed; duty = agree_turned (width p) x.duty y.duty r.duty }
 
-done_same : (p : Partition) (x y : Asked) → AreSame p x y → (h : Word) → IsOver (width p) h → IsDone (aims p x) h → IsDone (aims p y) h
+done_same : (p : Partition) (x y : Claims) → Agree (width p) x y → (h : Word) → IsOver (width p) h → IsDone (aims_with p x) h → IsDone (aims_with p y) h
 done_same p x y r h o (whole, goal) = (λ v. whole (violated_same (width p) y.duty x.duty (agree_turned (width p) x.duty y.duty r.duty) h o v), sym (r.goal h o) ∙ goal)
 
 -- the game for what is assumed is the same
-same_violation : (p : Partition) (x y : Asked) → AreSame p x y → Simulates (violation (aims p x)) (violation (aims p y)) (λ h g. IsOver (width p) h × (h ≡ g))
+same_violation : (p : Partition) (x y : Claims) → Agree (width p) x y → Simulates (violation (aims_with p x)) (violation (aims_with p y)) (λ h g. IsOver (width p) h × (h ≡ g))
 same_violation p x y r =
     record {
       duty = refl;
@@ -65,36 +52,36 @@ same_violation p x y r =
       kept = λ h g e unmet a k l. (over-push (width p) h a e.0 k, ap (λ z. one_more z a) e.1);
     }
 
-pub violates_same : (p : Partition) (x y : Asked) → AreSame p x y → (n : ℕ) (h : Word) → IsOver (width p) h → ViolatesWithin (aims p x) n h → ViolatesWithin (aims p y) n h
-violates_same p x y r n h o w = wins (violation (aims p x)) (violation (aims p y)) (λ h g. IsOver (width p) h × (h ≡ g)) (same_violation p x y r) n h h (o, refl) w
+pub violates_same : (p : Partition) (x y : Claims) → Agree (width p) x y → (n : ℕ) (h : Word) → IsOver (width p) h → ViolatesWithin (aims_with p x) n h → ViolatesWithin (aims_with p y) n h
+violates_same p x y r n h o w = wins (violation (aims_with p x)) (violation (aims_with p y)) (λ h g. IsOver (width p) h × (h ≡ g)) (same_violation p x y r) n h h (o, refl) w
 
-pub keepable_same : (p : Partition) (x y : Asked) → AreSame p x y → (h : Word) → IsOver (width p) h → IsKeepable (aims p x) h → IsKeepable (aims p y) h
+pub keepable_same : (p : Partition) (x y : Claims) → Agree (width p) x y → (h : Word) → IsOver (width p) h → IsKeepable (aims_with p x) h → IsKeepable (aims_with p y) h
 keepable_same p x y r h o keep n w = keep n (violates_same p y x (same_turned p x y r) n h o w)
 
-round_by : (d : Mover) (i o : ℕ) (x y : Asked) (h : Word) (a : ℕ) → a < 2 ^ (i + o)
-    → ((b : ℕ) → b < 2 ^ (i + o) → IsKeepable (aims (record { first = d; inputs = i; outputs = o }) x) (one_more h b) → IsKeepable (aims (record { first = d; inputs = i; outputs = o }) y) (one_more h b))
-    → IsLegalRound (aims (record { first = d; inputs = i; outputs = o }) x) h a → IsLegalRound (aims (record { first = d; inputs = i; outputs = o }) y) h a
+round_by : (d : Mover) (i o : ℕ) (x y : Claims) (h : Word) (a : ℕ) → a < 2 ^ (i + o)
+    → ((b : ℕ) → b < 2 ^ (i + o) → IsKeepable (aims_with (record { first = d; inputs = i; outputs = o }) x) (one_more h b) → IsKeepable (aims_with (record { first = d; inputs = i; outputs = o }) y) (one_more h b))
+    → IsLegalRound (aims_with (record { first = d; inputs = i; outputs = o }) x) h a → IsLegalRound (aims_with (record { first = d; inputs = i; outputs = o }) y) h a
 round_by Agent i o x y h a l keep legal = keep a l legal
 round_by Environment i o x y h a l keep legal = λ b q e. keep b q (legal b q e)
 
-round_same : (p : Partition) (x y : Asked) → AreSame p x y → (h : Word) (a : ℕ) → IsOver (width p) h → a < 2 ^ width p → IsLegalRound (aims p x) h a → IsLegalRound (aims p y) h a
+round_same : (p : Partition) (x y : Claims) → Agree (width p) x y → (h : Word) (a : ℕ) → IsOver (width p) h → a < 2 ^ width p → IsLegalRound (aims_with p x) h a → IsLegalRound (aims_with p y) h a
 round_same p x y r h a o l legal = round_by p.first p.inputs p.outputs x y h a l (λ b k keep. keepable_same p x y r (one_more h b) (over-push (width p) h b o k) keep) legal
 
-pub legal_same : (p : Partition) (x y : Asked) → AreSame p x y → (h : Word) → IsOver (width p) h → IsLegalHistory (aims p x) h → IsLegalHistory (aims p y) h
+pub legal_same : (p : Partition) (x y : Claims) → Agree (width p) x y → (h : Word) → IsOver (width p) h → IsLegalHistory (aims_with p x) h → IsLegalHistory (aims_with p y) h
 legal_same p x y r h o legal u v a e = let l = legal u v a e in (l.0, round_same p x y r u a (prefix_of (width p) h u (a ∷ v) o e) l.0 l.1)
 
-running_same : (p : Partition) (x y : Asked) → AreSame p x y → (h : Word) → IsOver (width p) h → IsRunning (aims p x) h → IsRunning (aims p y) h
+running_same : (p : Partition) (x y : Claims) → Agree (width p) x y → (h : Word) → IsOver (width p) h → IsRunning (aims_with p x) h → IsRunning (aims_with p y) h
 running_same p x y r h o (legal, never) =
     (legal_same p x y r h o legal, λ u v e d. never u v e (done_same p y x (same_turned p x y r) u (prefix_of (width p) h u v o e) d))
 
-met_same : (p : Partition) (x y : Asked) → AreSame p x y → (h : Word) → IsOver (width p) h → IsMetFirst (aims p x) h → IsMetFirst (aims p y) h
+met_same : (p : Partition) (x y : Claims) → Agree (width p) x y → (h : Word) → IsOver (width p) h → IsMetFirst (aims_with p x) h → IsMetFirst (aims_with p y) h
 met_same p x y r h o (legal, done, never) = (
   legal_same p x y r h o legal,
   done_same p x y r h o done,
   λ u v e some d. never u v e some (done_same p y x (same_turned p x y r) u (prefix_of (width p) h u v o e) d),
 )
 
-live_same : (p : Partition) (x y : Asked) → AreSame p x y → (h : Word) → IsOver (width p) h → IsLive (aims p x) h → IsLive (aims p y) h
+live_same : (p : Partition) (x y : Claims) → Agree (width p) x y → (h : Word) → IsOver (width p) h → IsLive (aims_with p x) h → IsLive (aims_with p y) h
 live_same p x y r h o (inl run) = inl (running_same p x y r h o run)
 live_same p x y r h o (inr met) = inr (met_same p x y r h o met)
 
@@ -103,7 +90,7 @@ letter_in : (p : ℕ) (u v : Word) (a : ℕ) → IsOver p (u ++ a ∷ v) → a <
 letter_in p [] v a o = over-head p a v o
 letter_in p (b ∷ u) v a o = letter_in p u v a (over-tail p b (u ++ a ∷ v) o)
 
-kind_same : (p : Partition) (x y : Asked) → AreSame p x y → (h : Word) (k : Kind) → IsOver (width p) h → HasKind (aims p x) h k → HasKind (aims p y) h k
+kind_same : (p : Partition) (x y : Claims) → Agree (width p) x y → (h : Word) (k : Kind) → IsOver (width p) h → HasKind (aims_with p x) h k → HasKind (aims_with p y) h k
 kind_same p x y r h Running o (run, whole) = (running_same p x y r h o run, λ v. whole (violated_same (width p) y.duty x.duty (agree_turned (width p) x.duty y.duty r.duty) h o v))
 kind_same p x y r h Broken o (run, v) = (running_same p x y r h o run, violated_same (width p) x.duty y.duty r.duty h o v)
 kind_same p x y r h Met o met = met_same p x y r h o met
@@ -113,12 +100,12 @@ kind_same p x y r h Illegal o (u, v, a, e, run, bad) =
     let l = letter_in (width p) u v a (subst (IsOver (width p)) e o) in
     (u, v, a, e, running_same p x y r u f run, λ legal. bad (round_same p y x (same_turned p x y r) u a f l legal))
 
-shares_same : (p : Partition) (x y : Asked) → AreSame p x y → (u v : Word) → IsOver (width p) u → IsOver (width p) v → ShareLocation (aims p x) u v → ShareLocation (aims p y) u v
+shares_same : (p : Partition) (x y : Claims) → Agree (width p) x y → (u v : Word) → IsOver (width p) u → IsOver (width p) v → ShareLocation (aims_with p x) u v → ShareLocation (aims_with p y) u v
 shares_same p x y r u v ou ov share w o =
     let k = share w o in
     (k.0, kind_same p x y r (u ++ w) k.0 (over-append (width p) u w ou o) k.1, kind_same p x y r (v ++ w) k.0 (over-append (width p) v w ov o) k.2)
 
-pub arena_same : (p : Partition) (x y : Asked) (m : Locations) → AreSame p x y → IsArenaOf (aims p x) m → IsArenaOf (aims p y) m
+pub arena_same : (p : Partition) (x y : Claims) (m : Locations) → Agree (width p) x y → IsArenaOf (aims_with p x) m → IsArenaOf (aims_with p y) m
 arena_same p x y m r arena =
     let back = same_turned p x y r in
     record {
@@ -137,3 +124,17 @@ pub same_arena : (s : Aims) (goal : Claim) (assumed duty : Option Claim) (m : Lo
     → AgreeWhere (width s.parts) s.duty duty → IsArenaOf s m → IsArenaOf (record { parts = s.parts; goal = goal; assumed = assumed; duty = duty }) m
 same_arena s goal assumed duty m g k d arena =
     arena_same s.parts (record { goal = s.goal; assumed = s.assumed; duty = s.duty }) (record { goal = goal; assumed = assumed; duty = duty }) m (record { goal = g; assumed = k; duty = d }) arena
+
+-- a duty in both, or in neither
+pub duty_same : (p : ℕ) (o q : Option Claim) → AgreeWhere p o q → is_given o ≡ is_given q
+duty_same p None None a = refl
+duty_same p None (Some d) a = absurd a
+duty_same p (Some c) None a = absurd a
+duty_same p (Some c) (Some d) a = refl
+
+-- and one least number of rounds within which what is assumed is violated
+pub unkeepable_same : (p : Partition) (x y : Claims) → Agree (width p) x y → (n : ℕ) → IsLeastNumber (λ k. ViolatesWithin (aims_with p x) k []) n
+    → IsLeastNumber (λ k. ViolatesWithin (aims_with p y) k []) n
+unkeepable_same p x y r n l =
+    least_same (λ k. ViolatesWithin (aims_with p x) k []) (λ k. ViolatesWithin (aims_with p y) k []) n
+    (λ k w. violates_same p x y r k [] (over-nil (width p)) w) (λ k w. violates_same p y x (same_turned p x y r) k [] (over-nil (width p)) w) l

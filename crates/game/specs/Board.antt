@@ -4,6 +4,7 @@ use Rattle.std.specs.Prelude.{◌≡◌, ◌<◌, ◌^◌, ◌+◌, ◌/◌, ◌
 pub use Rattle.forms.specs.declared.partition.Mover.{Mover}
 pub use Rattle.forms.specs.declared.partition.Mover.TheVariants.{Agent, Environment}
 pub use Rattle.forms.specs.declared.partition.Partition.{Partition}
+pub use Rattle.game.specs.Numbers.{IsLeastNumber}
 
 -- the number of propositions
 abbrev pub width : Partition → ℕ
@@ -28,6 +29,10 @@ IsChoice s x = elim s.first [ Agent ↦ x ≡ 0 | Environment ↦ x < 2 ^ s.inpu
 -- what the environment is shown before it answers: agent first the output, environment first nothing, which is 0
 abbrev pub shown : Partition → ℕ → ℕ
 shown s y = elim s.first [ Agent ↦ y | Environment ↦ 0 ]
+
+-- what it may be shown: agent first an output, environment first nothing
+abbrev pub IsShown : Partition → ℕ → Type 0
+IsShown s y = elim s.first [ Agent ↦ y < 2 ^ s.outputs | Environment ↦ y ≡ 0 ]
 
 -- an output
 abbrev pub IsOutput : Partition → ℕ → Type 0
@@ -63,8 +68,3 @@ EachLeads {s = s} b P h x y = (a : ℕ) → IsRound s x y a → b.IsLegal h a �
 -- some legal round with this decision and this output leads into P
 abbrev pub SomeLeads : {s : Partition} (b : Board s) → (b.Place → Type 0) → b.Place → ℕ → ℕ → Type 0
 SomeLeads {s = s} b P h x y = (a : ℕ) × IsRound s x y a × b.IsLegal h a × P (b.after h a)
-
--- n is the least number with P
-pub record IsLeastNumber (P : ℕ → Type 0) (n : ℕ) : Type 0 where
-  pub holds : P n
-  pub least : (k : ℕ) → k < n → ¬ P k

@@ -91,6 +91,14 @@ IsMetFirst s h = IsLegalHistory s h × IsDone s h × ((u v : Word) → h ≡ u +
 abbrev pub IsLive : Aims → Word → Type 0
 IsLive s h = IsRunning s h ⊎ IsMetFirst s h
 
+-- a history over the specification's propositions
+abbrev pub IsHistory : Aims → Word → Type 0
+IsHistory s h = IsOver (width s.parts) h
+
+-- one that is live
+abbrev pub IsLiveHistory : Aims → Word → Type 0
+IsLiveHistory s h = IsHistory s h × IsLive s h
+
 -- By its shortest prefix that is illegal or meets the goal a history goes on, with the duty not broken or broken; meets the
 -- goal just now; went past it; or is illegal.
 pub data Kind : Type 0 where

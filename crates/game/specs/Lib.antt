@@ -1,3 +1,4 @@
+pub mod Numbers
 pub mod Board
 pub mod Winning
 pub mod Following

@@ -1,13 +1,9 @@
--- The marks and moves of decisions by numbers of the places to which their rounds lead, which is what `merge` computes.
+-- The marks and moves of decisions by numbers of the places to which their rounds lead, which is how they are computed.
 use Rattle.std.specs.Prelude.{◌≡◌, ◌≤◌, ℕ, suc, true, false, Option, Some, None}
 use Rattle.game.specs.Board.{Agent, Environment, IsLetter, Partition, Board, EachLeads, SomeLeads, IsOutput, IsLeastNumber}
+use Rattle.game.specs.Numbers.{IsLeastOrNone}
 use Rattle.game.specs.Winning.{WinsWithin, ReachesWithin, FailsDutyWithin}
 use Rattle.game.specs.Marks.{Mark, Goal, Win, Pending, Lost, Held, LostIn, IsOutOfReach, IsLeastOutput}
-
--- the number is the least with P, or none has P
-abbrev pub IsLeastOrNone : (ℕ → Type 0) → Option ℕ → Type 0
-IsLeastOrNone P (Some n) = IsLeastNumber P n
-IsLeastOrNone P None = (k : ℕ) → ¬ P k
 
 -- there is a number, and it is at most k
 abbrev pub IsAtMost : Option ℕ → ℕ → Type 0
