@@ -87,3 +87,14 @@ hope_is_meeting_from b I p decided zero h x i unmet d w = absurd w
 hope_is_meeting_from b I p decided (suc n) h x i unmet d (inl w) = winning_is_meeting_from b I p decided (suc n) h x i unmet d w
 hope_is_meeting_from b I p decided (suc n) h x i unmet d (inr (never, y, o, (a, round, l, w))) =
     (y, o, (a, round, l, hope_is_meeting b I p decided n (b.after h a) (p.kept h i unmet a round.letter l) w))
+
+-- what is won is hoped for
+pub winning_is_hope : {s : Partition} (b : Board s) (I : b.Place → Type 0) → IsPlayable b I → ((h : b.Place) → I h → b.IsMet h ⊎ (¬ b.IsMet h))
+    → (n : ℕ) (h : b.Place) → I h → WinsWithin b n h → ReachesWithin b n h
+winning_is_hope b I p decided zero h i w = w
+winning_is_hope b I p decided (suc n) h i (inl m) = inl m
+winning_is_hope b I p decided (suc n) h i (inr f) =
+    elim (decided h i) [
+      | inl m ↦ inl m
+      | inr unmet ↦ let x = p.decides h i unmet in inr (x.0, x.1, inl (f x.0 x.1))
+    ]
