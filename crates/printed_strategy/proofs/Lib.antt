@@ -1,0 +1,9 @@
+pub mod LocationLemmas
+pub mod Located
+pub mod HeadlineLemmas
+pub mod ArenaPlans
+pub mod ComputedLemmas
+pub mod OnePrinted
+pub mod CubeFacts
+pub mod FieldLemmas
+pub mod OneText
