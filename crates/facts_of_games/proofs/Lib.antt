@@ -1,0 +1,7 @@
+mod PrintedFacts
+mod PlayedFacts
+pub mod SharedFacts
+mod SharedPlanFacts
+pub mod HeldFacts
+mod HeldPlanFacts
+mod TextFacts
