@@ -1,3 +1,6 @@
+pub mod ArenaByHand
+pub mod Stuck
+pub mod OpenFacts
 mod PrintedFacts
 mod PlayedFacts
 pub mod SharedFacts
