@@ -20,7 +20,11 @@ use Rattle.attractor.specs.Rows.{side_of, is_first_at, IsAttraction}
 use Rattle.layers.specs.ArenaRows.{locations_of, AreArenaRows, agent_sides, environment_sides}
 use Rattle.layers.proofs.MinimaxLemmas.{other}
 use Rattle.layers.proofs.Bounds.{rank_most}
+use Rattle.layers.proofs.Rounds.{below, beyond}
+use Rattle.layers.proofs.HopeLemmas.{rows_won}
 use Rattle.layers.proofs.Solved.{solved_ranks, solved_losses}
+use Rattle.layers.specs.Decisions.{illegal_rank, won_by}
+use Rattle.layers.specs.Distances.{AreWon}
 
 choice_true : (b : Bool) → (if b then true else false) ≡ b
 choice_true true = refl
@@ -47,6 +51,16 @@ agent_sides-are s = λ j v. agent_side s.first s.inputs s.outputs v j
 
 environment_sides-are : (s : Partition) → side_of (environment_sides s) ≡ other (is_output s)
 environment_sides-are s = λ j v. environment_side s.first s.inputs s.outputs v j
+
+-- values of locations, and this one at the size
+abbrev with_end : ℕ → Option ℕ → (ℕ → Option ℕ) → ℕ → Option ℕ
+with_end size end value z = if nat_lt z size then value z else end
+
+end_there : (size : ℕ) (end : Option ℕ) (value : ℕ → Option ℕ) (z : ℕ) → z < size → with_end size end value z ≡ value z
+end_there size end value z h = let e : nat_lt z size ≡ true = below size z h in rw e refl
+
+end_is : (size : ℕ) (end : Option ℕ) (value : ℕ → Option ℕ) → with_end size end value size ≡ end
+end_is size end value = let e : nat_lt size size ≡ false = beyond size size (omega arith) in rw e refl
 
 eval-tree : (s : Diagrams) (i : Id) (a : Assignment) → eval s i a ≡ value_at (tree s i) a
 unfolding eval
@@ -82,3 +96,13 @@ module _ (s : Diagrams) (parts : Partition) (duty : Bool) (rows : List Id) (goal
   attraction_small numbers t few k n h e =
       let m = rank_most parts duty (locations_of s rows goals broken) (number_at numbers) (attraction_ranks numbers t) k n h e in
       omega arith
+
+  -- decisions have winning numbers
+  pub arena_won : (rank : ℕ → Option ℕ) → AreRanks parts duty (locations_of s rows goals broken) rank → (won : ℕ → ℕ → Option ℕ) × AreWon parts duty (locations_of s rows goals broken) won
+  arena_won rank r =
+      let ended = with_end (length rows) (illegal_rank parts) rank in
+      let fine : AreRanks parts duty (locations_of s rows goals broken) (with_end (length rows) (illegal_rank parts) rank) =
+      λ at h. subst (λ v. IsLeastOrNone (λ n. WinsWithin (locations parts duty (locations_of s rows goals broken)) n at) v) (sym (end_there (length rows) (illegal_rank parts) rank at h)) (r at h) in (
+        won_by parts ended (λ at. tree s (id_at rows at)),
+        rows_won parts duty (locations_of s rows goals broken) (λ at. tree s (id_at rows at)) row_tree a.even ended fine (end_is (length rows) (illegal_rank parts) rank),
+      )

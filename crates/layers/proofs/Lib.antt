@@ -19,3 +19,5 @@ pub mod ReplacedLemmas
 pub mod FoldedWins
 pub mod ArenaLemmas
 pub mod FoldedRows
+pub mod NarrowedLemmas
+pub mod HistoryLemmas

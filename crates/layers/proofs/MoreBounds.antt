@@ -4,7 +4,7 @@ use Rattle.std.proofs.lemmas.Nat.{pow_pos}
 use Rattle.std.proofs.lemmas.Bool.{cases_lt}
 use Rattle.game.specs.Board.{IsRound, IsLeastNumber}
 use Rattle.forms.specs.declared.partition.Partition.{Partition}
-use Rattle.game.specs.Winning.{WinsWithin, DecisionWinsWithin, ReachesWithin, FailsDutyWithin}
+use Rattle.game.specs.Winning.{WinsWithin, DecisionWinsWithin, IsWinnable, WinsOrLeads, ReachesWithin, DecisionReachesWithin, FailsDutyWithin}
 use Rattle.game.specs.Arena.{Locations, locations, IsDecisionThere}
 use Rattle.attractor.specs.Minimax.{IsWithin}
 use Rattle.game.specs.Values.{IsLeastOrNone}
@@ -15,7 +15,7 @@ use Rattle.layers.proofs.Layers.{wins_lasts, fails_lasts, reaches_lasts}
 use Rattle.layers.proofs.Search.{some_or_none}
 use Rattle.layers.proofs.Least.{within_from, holds_from, is_number, number_is, within_less, some_number, within_is}
 use Rattle.attractor.proofs.SettlingLemmas.{option_cases}
-use Rattle.layers.proofs.Bounds.{IsTaken, taken_few, taken_down, taken_all, skip}
+use Rattle.layers.proofs.Bounds.{IsTaken, taken_few, taken_down, taken_all, skip, rank_less}
 use Rattle.layers.proofs.Meeting.{wins_reaches}
 use Rattle.layers.proofs.DistanceLemmas.{met_or_not}
 
@@ -36,6 +36,17 @@ down_less size label down n t =
     subst (IsTaken size label) z (taken_each size label down k (n - k) (subst (IsTaken size label) q t)) in
     let f = taken_few size label 0 (suc n) all in
     omega arith
+
+-- the number of a decision that can be won is at most the number of locations
+pub decision_few : (s : Partition) (duty : Bool) (m : Locations) (rank : ℕ → Option ℕ) → AreRanks s duty m rank → IsPlayableArena s duty m → (at x n : ℕ) → at < m.size
+    → IsLeastNumber (λ k. DecisionWinsWithin (locations s duty m) k at x) n → n ≤ m.size
+decision_few s duty m rank r g at x zero h least = omega arith
+decision_few s duty m rank r g at x (suc zero) h least = omega arith
+decision_few s duty m rank r g at x (suc (suc j)) h least =
+    elim (some_or_none (λ c. is_number (suc j) (rank c)) m.size) [
+      | inl k ↦ let l = rank_less s duty m rank r g k.0 (suc j) k.1 (number_is (suc j) (rank k.0) k.2) in omega arith
+      | inr f ↦ let w = least.holds in absurd (least.least (suc j) (omega arith) (w.0, w.1, λ a t l. skip s duty m rank r j f (m.next at a) l (w.2 a t l)))
+    ]
 
 module _ (s : Partition) (duty : Bool) (m : Locations) (rank : ℕ → Option ℕ) (r : AreRanks s duty m rank) (won : ℕ → ℕ → Option ℕ) (w : AreWon s duty m won) (g : IsPlayableArena s duty m) where
   -- the number of a decision before the goal is some location's rank
@@ -76,6 +87,18 @@ module _ (s : Partition) (duty : Bool) (m : Locations) (rank : ℕ → Option �
     rank_goes : (k j : ℕ) → k ≤ j → IsTaken m.size rank j → IsTaken m.size label k
     rank_goes k j l t = let q : j ≡ k + (j - k) = omega arith in taken_label k (taken_all s duty m rank r g k (j - k) (subst (IsTaken m.size rank) q t))
 
+    -- a distance is a label, of that location or of another
+    hope_taken : (to k : ℕ) → to < m.size → distance to ≡ Some k → IsTaken m.size label k
+    hope_taken to k h q =
+        elim (option_cases (rank to)) [
+          | inl e ↦ (to, h, label_open to e ∙ q)
+          | inr e ↦
+              let v = holds_from (λ n. WinsWithin (locations s duty m) n to) (wins_lasts (locations s duty m) to) (rank to) (r to h) e.0 (within_is e.0 e.0 (rank to) e.1 (omega arith)) in
+              let u = wins_reaches (locations s duty m) (λ i. i < m.size) g (met_or_not s duty m) e.0 to h v in
+              let b : IsWithin e.0 (Some k) = subst (IsWithin e.0) q (within_from (λ n. ReachesWithin (locations s duty m) n to) (distance to) (c to h) e.0 u) in
+              rank_goes k e.0 (omega arith) (to, h, e.1)
+        ]
+
     open_down : (at k : ℕ) → at < m.size → IsLeastNumber (λ n. ReachesWithin (locations s duty m) n at) (suc k) → IsTaken m.size label k
     open_down at k h least =
         elim least.holds [
@@ -99,14 +122,7 @@ module _ (s : Partition) (duty : Bool) (m : Locations) (rank : ℕ → Option �
                       absurd (least.least (suc j.0) (omega arith) (inr (t.0, t.1, inr (p.0, p.1, p.2, (a, p.3.1, p.3.2, v)))))
                   | inr no_less ↦
                       let z : j.0 ≡ k = omega arith in
-                      elim (option_cases (rank to)) [
-                        | inl e ↦ (to, p.3.2, label_open to e ∙ j.1 ∙ ap (λ i. Some i) z)
-                        | inr e ↦
-                            let v = holds_from (λ n. WinsWithin (locations s duty m) n to) (wins_lasts (locations s duty m) to) (rank to) (r to p.3.2) e.0 (within_is e.0 e.0 (rank to) e.1 (omega arith)) in
-                            let u = wins_reaches (locations s duty m) (λ i. i < m.size) g (met_or_not s duty m) e.0 to p.3.2 v in
-                            let b : IsWithin e.0 (Some j.0) = subst (IsWithin e.0) j.1 (within_from (λ n. ReachesWithin (locations s duty m) n to) (distance to) (c to p.3.2) e.0 u) in
-                            rank_goes k e.0 (omega arith) (to, p.3.2, e.1)
-                      ]
+                      hope_taken to k p.3.2 (j.1 ∙ ap (λ i. Some i) z)
                 ]
           ]
         ]
@@ -126,6 +142,32 @@ module _ (s : Partition) (duty : Bool) (m : Locations) (rank : ℕ → Option �
     -- the distance of a location that isn't won is below the number of locations
     pub distance_less : (at n : ℕ) → at < m.size → rank at ≡ None → distance at ≡ Some n → n < m.size
     distance_less at n h e q = down_less m.size label label_down n (at, h, label_open at e ∙ q)
+
+    -- each distance is at most the number of locations
+    pub distance_most : (at n : ℕ) → at < m.size → distance at ≡ Some n → n < m.size
+    distance_most at n h q = down_less m.size label label_down n (hope_taken at n h q)
+
+    -- the hope of a decision that can't be won is at most the number of locations
+    pub decision_hope_few : (at x n : ℕ) → at < m.size → ¬ IsWinnable (locations s duty m) at x → IsLeastNumber (λ k. DecisionReachesWithin (locations s duty m) k at x) n → n ≤ m.size
+    decision_hope_few at x zero h f least = omega arith
+    decision_hope_few at x (suc k) h f least = hope_few k at x h f least.least least.holds
+      where
+        hope_few : (k at x : ℕ) → at < m.size → ¬ IsWinnable (locations s duty m) at x → ((j : ℕ) → j < suc k → ¬ DecisionReachesWithin (locations s duty m) j at x)
+            → WinsOrLeads (locations s duty m) k (ReachesWithin (locations s duty m) k) at x → suc k ≤ m.size
+        hope_few k at x h f least (inl p) = absurd (f (suc k, p))
+        hope_few k at x h f least (inr (w, y, o, (a, round, l, v))) =
+            let to = m.next at a in
+            let j = some_number k (distance to) (within_from (λ n. ReachesWithin (locations s duty m) n to) (distance to) (c to l) k v) in
+            let b = j.2 in
+            elim (cases_lt j.0 k) [
+              | inl less ↦
+                  let u = holds_from (λ n. ReachesWithin (locations s duty m) n to) (reaches_lasts (locations s duty m) to) (distance to) (c to l) j.0 (within_is j.0 j.0 (distance to) j.1 (omega arith)) in
+                  absurd (least (suc j.0) (omega arith) (inr (w, y, o, (a, round, l, u))))
+              | inr no_less ↦
+                  let z : j.0 ≡ k = omega arith in
+                  let d = down_less m.size label label_down k (hope_taken to k l (j.1 ∙ ap (λ i. Some i) z)) in
+                  omega arith
+            ]
 
 module _ (s : Partition) (duty : Bool) (m : Locations) (loss : ℕ → Option ℕ) (c : (at : ℕ) → at < m.size → IsLeastOrNone (λ n. FailsDutyWithin (locations s duty m) n at) (loss at)) where
   fails_in : (n at : ℕ) → at < m.size → FailsDutyWithin (locations s duty m) n at → IsWithin n (loss at)

@@ -5,3 +5,5 @@ pub mod Decisions
 pub mod Distances
 pub mod ArenaRows
 pub mod Laws
+pub mod Narrowed
+pub mod HistoryNumbers
