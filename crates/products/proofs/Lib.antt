@@ -1,0 +1,5 @@
+pub mod PlaceLemmas
+pub mod WalkLemmas
+pub mod JoiningLemmas
+pub mod EndLemmas
+pub mod WatchingLemmas

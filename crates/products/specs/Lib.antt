@@ -1,0 +1,6 @@
+pub mod Places
+pub mod Joins
+pub mod Joining
+pub mod Ends
+pub mod Watch
+pub mod Watching
