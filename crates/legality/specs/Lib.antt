@@ -1,0 +1,3 @@
+pub mod Violation
+pub mod Spared
+pub mod Legal
