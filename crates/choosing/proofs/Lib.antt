@@ -1,0 +1,15 @@
+pub mod NumberLemmas
+pub mod KnownLemmas
+pub mod BestLemmas
+pub mod FirstLemmas
+pub mod ForcedLemmas
+pub mod Numbered
+pub mod CutLemmas
+pub mod ReachLemmas
+pub mod RoundLemmas
+pub mod ChosenLemmas
+pub mod CutRowLemmas
+pub mod FitLemmas
+pub mod StandingLemmas
+pub mod ChoiceLemmas
+pub mod RowLemmas

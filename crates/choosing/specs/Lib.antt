@@ -1,0 +1,11 @@
+pub mod Numbers
+pub mod Best
+pub mod Known
+pub mod Cuts
+pub mod Numbered
+pub mod Chosen
+pub mod Found
+pub mod Choices
+pub mod Rounds
+pub mod MarkOf
+pub mod ArenaRows
