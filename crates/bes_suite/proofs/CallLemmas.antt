@@ -15,7 +15,7 @@ use Rattle.bes_suite.specs.Limits.{ending_at_limit}
 use Rattle.bes_suite.specs.declared.endings.Ending.{Ending}
 use Rattle.bes_suite.specs.declared.endings.Ending.TheVariants.{Positive, Negative, Refused, OutsideFault, NoMemory}
 use Rattle.bes_suite.specs.declared.endings.Refusal.{Refusal}
-use Rattle.form_reader.specs.declared.dialect.Dialect.{Dialect}
+use Rattle.form_tokens.specs.declared.dialect.Dialect.{Dialect}
 use Rattle.translate.specs.declared.fault.TranslateFault.{TranslateFault}
 use Rattle.translate.specs.declared.fault.TranslateFault.TheVariants.{TooMany, Memory}
 use Rattle.bes_suite.proofs.RunLemmas.{refusal-status}

@@ -1,13 +1,13 @@
 -- A text is one formula, or it is refused.
 use Rattle.std.proofs.Common.{◌≡◌, ℕ, false, List, [], Ok, ap, refl}
 use Rattle.forms.specs.Tree.{Formula}
-use Rattle.form_reader.specs.declared.dialect.Dialect.{Dialect}
+use Rattle.form_tokens.specs.declared.dialect.Dialect.{Dialect}
 use Rattle.form_reader.specs.declared.fault.FormFault.{FormFault}
 use Rattle.form_reader.specs.declared.fault.FormFault.TheVariants as form
 use Rattle.form_reader.specs.Blames.{Blames}
 use Rattle.form_reader.specs.Machine.{Due}
 use Rattle.form_reader.specs.Outcome.{outcome, stage_of}
-use Rattle.form_reader.specs.Spelling.{lexemes}
+use Rattle.form_tokens.specs.Spelling.{lexemes}
 use Rattle.form_reader.proofs.Outcomes.{outcome-only, outcome-first_fault, fault_of}
 use Rattle.bes_suite.specs.Formulas.{IsFormula, IsRefused, EndsAtFormula, fault_ending}
 

@@ -1,7 +1,7 @@
 -- What `judge` says, by what its parts found.
 use Rattle.std.proofs.Common.{◌≡◌, ℕ, inl, inr, List, [], sym, refl, subst, Option, Some, Bool, true, false, Ok, Err}
 use Rattle.forms.specs.Tree.{Formula}
-use Rattle.form_reader.specs.declared.dialect.Dialect.{Dialect}
+use Rattle.form_tokens.specs.declared.dialect.Dialect.{Dialect}
 use Rattle.bes_suite.specs.declared.endings.Ending.{Ending}
 use Rattle.bes_suite.specs.declared.endings.Ending.TheVariants.{Positive, Negative, Refused, OutsideFault, NoMemory}
 use Rattle.bes_suite.specs.declared.endings.Refusal.{Refusal}

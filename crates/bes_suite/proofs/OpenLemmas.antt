@@ -7,7 +7,7 @@ use Rattle.forms.specs.Tree.{Formula}
 use Rattle.forms.specs.Parts.{parts, part}
 use Rattle.forms.specs.Satisfaction.{meets}
 use Rattle.forms.specs.Equivalence.{HasClassCount}
-use Rattle.form_reader.specs.declared.dialect.Dialect.{Dialect}
+use Rattle.form_tokens.specs.declared.dialect.Dialect.{Dialect}
 use Rattle.minimise.proofs.Once.{class_count_is_one}
 use Rattle.translate.specs.Counting.{claim_of, HasCount, AreCounts, IsWithin, IfTooMany, IsFirstOver}
 use Rattle.translate.specs.declared.fault.TranslateFault.{TranslateFault}

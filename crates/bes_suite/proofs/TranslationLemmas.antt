@@ -20,7 +20,7 @@ use Rattle.translate.proofs.CountLemmas.{first_over_is_not_within}
 use Rattle.translate.proofs.MeantLemmas.{least_for}
 use Rattle.distinguish.specs.Telling.{IsTellingList}
 use Rattle.distinguish.proofs.Unique.{telling_list_is_unique}
-use Rattle.form_reader.specs.declared.dialect.Dialect.{Dialect}
+use Rattle.form_tokens.specs.declared.dialect.Dialect.{Dialect}
 use Rattle.translate.specs.declared.fault.TranslateFault.{TranslateFault}
 use Rattle.translate.specs.declared.fault.TranslateFault.TheVariants.{TooMany, Memory}
 use Rattle.bes_suite.specs.declared.endings.Ending.TheVariants.{Positive}

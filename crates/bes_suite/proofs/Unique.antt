@@ -2,7 +2,7 @@
 use Rattle.std.proofs.Common.{◌≡◌, ℕ, ◌∷◌, List, [], length, sym, refl, ◌∙◌, ap, subst, Some, None}
 use Rattle.bes_io.specs.Lines.{Stop, at_end, HasLines}
 use Rattle.forms.specs.Satisfaction.{meets}
-use Rattle.form_reader.specs.declared.dialect.Dialect.{Dialect}
+use Rattle.form_tokens.specs.declared.dialect.Dialect.{Dialect}
 use Rattle.spec_reader.specs.declared.events.Mode.TheVariants.{Ignore}
 use Rattle.spec_reader.proofs.EventLemmas.{one_letter}
 use Rattle.bes_suite.specs.declared.commands.Command.{Command}

@@ -5,7 +5,7 @@ use Rattle.bes_io.specs.Letter.{has}
 use Rattle.forms.specs.Tree.{Formula}
 use Rattle.forms.specs.Parts.{part}
 use Rattle.forms.specs.Word.{Word}
-use Rattle.form_reader.specs.Printed.{printed}
+use Rattle.form_printer.specs.Printed.{printed}
 use Rattle.diagrams.specs.declared.cubes.Cube.{Cube}
 use Rattle.diagrams.specs.Tree.{Assignment}
 use Rattle.diagrams.specs.Eval.{letter_truth}

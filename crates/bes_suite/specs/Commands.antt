@@ -2,8 +2,8 @@
 use Rattle.std.specs.Prelude.{ℕ, ◌==◌, if◌then◌else◌, List, [], length, codes, Bool, true, false, Option, Some, None}
 use Rattle.std.specs.List.{slice_index_or}
 use Rattle.std.specs.Str.{bytes_eq}
-use Rattle.form_reader.specs.declared.dialect.Dialect.{Dialect}
-use Rattle.form_reader.specs.declared.dialect.Dialect.TheVariants.{Ltlf, Ldlf}
+use Rattle.form_tokens.specs.declared.dialect.Dialect.{Dialect}
+use Rattle.form_tokens.specs.declared.dialect.Dialect.TheVariants.{Ltlf, Ldlf}
 use Rattle.bes_suite.specs.declared.commands.Command.{Command}
 use Rattle.bes_suite.specs.declared.commands.Command.TheVariants.{Usage, Judge, Forms, Translate, Monitor}
 

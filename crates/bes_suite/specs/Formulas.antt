@@ -1,10 +1,10 @@
 -- The formula that a text is, and what reading it says of a run.
 use Rattle.std.specs.Prelude.{◌≡◌, ℕ, List, [], Some, false}
 use Rattle.forms.specs.Tree.{Formula}
-use Rattle.form_reader.specs.declared.dialect.Dialect.{Dialect}
+use Rattle.form_tokens.specs.declared.dialect.Dialect.{Dialect}
 use Rattle.form_reader.specs.declared.fault.FormFault.{FormFault}
 use Rattle.form_reader.specs.declared.fault.FormFault.TheVariants as form
-use Rattle.form_reader.specs.Names.{Table}
+use Rattle.form_tokens.specs.Names.{Table}
 use Rattle.form_reader.specs.Reading.{IsFormulaOf, refusal as first_refusal, names_of as names_after}
 use Rattle.bes_suite.specs.declared.endings.Ending.{Ending}
 use Rattle.bes_suite.specs.declared.endings.Ending.TheVariants.{Refused, NoMemory}

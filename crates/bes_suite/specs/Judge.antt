@@ -3,7 +3,7 @@ use Rattle.std.specs.Prelude.{◌≡◌, ℕ, List, [], ◌∷◌, length, codes
 use Rattle.bes_io.specs.Lines.{Stop, at_end, HasLines}
 use Rattle.forms.specs.Tree.{Formula}
 use Rattle.forms.specs.Satisfaction.{meets as meets_trace}
-use Rattle.form_reader.specs.declared.dialect.Dialect.{Dialect}
+use Rattle.form_tokens.specs.declared.dialect.Dialect.{Dialect}
 use Rattle.form_reader.specs.declared.fault.FormFault.{FormFault}
 use Rattle.bes_suite.specs.declared.endings.Ending.{Ending}
 use Rattle.bes_suite.specs.declared.endings.Ending.TheVariants.{Positive, Negative, Refused}

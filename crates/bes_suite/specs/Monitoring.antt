@@ -6,7 +6,7 @@ use Rattle.forms.specs.Tree.{Formula}
 use Rattle.forms.specs.Parts.{parts}
 use Rattle.forms.specs.Satisfaction.{meets}
 use Rattle.forms.specs.Verdict.{Verdict, PermTrue, PermFalse, TempTrue, TempFalse, IsVerdict}
-use Rattle.form_reader.specs.declared.dialect.Dialect.{Dialect}
+use Rattle.form_tokens.specs.declared.dialect.Dialect.{Dialect}
 use Rattle.form_reader.specs.declared.fault.FormFault.{FormFault}
 use Rattle.spec_reader.specs.Event.{IsEventOf, event_fault}
 use Rattle.spec_reader.specs.declared.events.EventFault.{EventFault}

@@ -2,9 +2,9 @@
 use Rattle.std.specs.Prelude.{ℕ, List, ◌++◌, codes}
 use Rattle.forms.specs.Tree.{Formula}
 use Rattle.forms.specs.Normal.{normal}
-use Rattle.form_reader.specs.declared.dialect.Dialect.{Dialect}
+use Rattle.form_tokens.specs.declared.dialect.Dialect.{Dialect}
 use Rattle.form_reader.specs.declared.fault.FormFault.{FormFault}
-use Rattle.form_reader.specs.Printed.{printed}
+use Rattle.form_printer.specs.Printed.{printed}
 use Rattle.bes_suite.specs.declared.endings.Ending.TheVariants.{Positive}
 use Rattle.bes_suite.specs.declared.endings.Refusal.TheVariants as refusal
 use Rattle.bes_suite.specs.Replies.{Reply, refusing}

@@ -4,7 +4,7 @@ use Rattle.forms.specs.Tree.{Formula}
 use Rattle.forms.specs.Word.{Word}
 use Rattle.forms.specs.Equivalence.{HasClassCount}
 use Rattle.forms.specs.Satisfaction.{meets}
-use Rattle.form_reader.specs.declared.dialect.Dialect.{Dialect}
+use Rattle.form_tokens.specs.declared.dialect.Dialect.{Dialect}
 use Rattle.form_reader.specs.declared.fault.FormFault.{FormFault}
 use Rattle.automata.specs.Moves.{Moves}
 use Rattle.minimise.specs.Minimal.{IsLeastFor}

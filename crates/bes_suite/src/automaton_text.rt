@@ -7,7 +7,8 @@ ghost use Rattle.bes_suite.specs.AutomatonText.{name_list, part_line, part_lines
 
 use bes_io::{Letters, Memory, Text};
 use distinguish::Words;
-use form_reader::{Names, print_part};
+use form_printer::print_part;
+use form_tokens::Names;
 use forms::Form;
 use std::alloc::Global;
 use translate::Counts;

@@ -4,7 +4,7 @@ ghost use Rattle.std.specs.Str.{bytes_eq};
 ghost use Rattle.bes_suite.specs.Commands.{command_in, command_of, dialect_of};
 
 use bes_io::Word;
-use form_reader::Dialect;
+use form_tokens::Dialect;
 
 /// What a command line asks for.
 #[derive(Clone, Copy, Debug, PartialEq, Eq)]

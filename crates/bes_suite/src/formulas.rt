@@ -5,7 +5,8 @@ ghost use Rattle.forms.specs.Proper.{IsProper};
 ghost use Rattle.bes_suite.specs.Formulas.{IsFormula, names_of, fault_ending, EndsAtFormula};
 
 use crate::endings::{Ending, Refusal};
-use form_reader::{Dialect, FormFault, Names, read_form};
+use form_reader::{FormFault, read_form};
+use form_tokens::{Dialect, Names};
 use forms::Form;
 use std::alloc::Global;
 

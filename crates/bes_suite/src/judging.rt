@@ -15,7 +15,7 @@ use crate::formulas::read_formula;
 use crate::putting::put_all;
 use crate::traces::read_trace;
 use bes_io::{Sink, Source};
-use form_reader::{Dialect, Names};
+use form_tokens::{Dialect, Names};
 use forms::Form;
 use std::alloc::Global;
 use trace_meaning::judge;

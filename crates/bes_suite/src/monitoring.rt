@@ -21,7 +21,7 @@ use crate::limits::{MOST_CLASSES, limit_ending};
 use crate::traces::next_letter;
 use bes_io::{Failed, LineReader, Sink, Source};
 use diagrams::Store;
-use form_reader::{Dialect, Names};
+use form_tokens::{Dialect, Names};
 use forms::Form;
 use monitor::{Monitor, Verdict};
 use std::alloc::Global;

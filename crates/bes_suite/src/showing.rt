@@ -12,7 +12,8 @@ use crate::endings::Ending;
 use crate::formulas::read_formula;
 use crate::putting::put_all;
 use bes_io::{Memory, Sink, Text};
-use form_reader::{Dialect, Names, print_form};
+use form_printer::print_form;
+use form_tokens::{Dialect, Names};
 use forms::{Form, nnf};
 use std::alloc::Global;
 

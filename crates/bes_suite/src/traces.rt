@@ -6,7 +6,7 @@ ghost use Rattle.bes_suite.specs.Letters.{stopped, NextLetter, GivesTrace, HasTr
 
 use crate::endings::{Ending, Refusal};
 use bes_io::{Found, Letters, LineFault, LineReader, Source};
-use form_reader::Names;
+use form_tokens::Names;
 use spec_reader::{Mode, read_event};
 use std::alloc::Global;
 

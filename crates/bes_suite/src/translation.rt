@@ -19,7 +19,7 @@ use automata::print_table;
 use bes_io::{Sink, Text};
 use diagrams::Store;
 use distinguish::telling_words;
-use form_reader::{Dialect, Names};
+use form_tokens::{Dialect, Names};
 use forms::Form;
 use std::alloc::Global;
 use translate::{TranslateFault, translate};

@@ -2,7 +2,7 @@
 use Rattle.std.proofs.Common.{◌≡◌, List, [], ◌∷◌, Option, Some, None, refl, sym, ap, ◌∙◌, Bool, true, false, cond, ◌&&◌, subst, nat_le, length, ◌↔◌}
 use Rattle.std.specs.Option.{IfSome, option_and_then, is_some}
 use Rattle.forms.specs.Tree.{Formula}
-use Rattle.form_reader.specs.declared.token.Token.{Token}
+use Rattle.form_tokens.specs.declared.token.Token.{Token}
 use Rattle.form_reader.specs.Grammar.{IsText}
 use Rattle.form_reader.specs.Waiting.{most_waiting}
 use Rattle.form_reader.specs.Admitted.{Scan, start, admits, after, waits_after, all_admitted, is_shallow, IsAdmitted}

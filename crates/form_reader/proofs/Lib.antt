@@ -8,15 +8,5 @@ pub mod Laws
 pub mod Measures
 pub mod Turns
 pub mod Outcomes
-pub mod Pieces
-pub mod Signs
-pub mod NamesLemmas
 pub mod NamesAfter
 pub mod Texts
-pub mod PartsFound
-pub mod Cuts
-pub mod Written
-pub mod Numbered
-pub mod Spelled
-pub mod PrintedBack
-pub mod PrintedFacts

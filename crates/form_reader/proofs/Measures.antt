@@ -2,18 +2,18 @@
 use Rattle.std.proofs.Common.{◌≡◌, ℕ, ◌+◌, ◌*◌, ◌≤◌, ◌<◌, List, [], ◌∷◌, arith, length, refl}
 use Rattle.forms.specs.Tree.{Formula, Program, nodes, program_nodes}
 use Rattle.forms.specs.Proper.{IsProper, IsProperProgram}
-use Rattle.form_reader.specs.declared.token.Prefix.{Prefix}
-use Rattle.form_reader.specs.declared.token.Prefix.TheVariants as before
-use Rattle.form_reader.specs.declared.token.Infix.{Infix}
-use Rattle.form_reader.specs.declared.token.Infix.TheVariants as binary
-use Rattle.form_reader.specs.declared.token.PathInfix.{PathInfix}
-use Rattle.form_reader.specs.declared.token.PathInfix.TheVariants as path_binary
-use Rattle.form_reader.specs.declared.token.Modality.{Modality}
-use Rattle.form_reader.specs.declared.token.Modality.TheVariants as modalities
-use Rattle.form_reader.specs.declared.token.Leaf.{Leaf}
-use Rattle.form_reader.specs.declared.token.Leaf.TheVariants as leaf_tokens
-use Rattle.form_reader.specs.declared.token.Token.{Token}
-use Rattle.form_reader.specs.declared.token.Token.TheVariants as token
+use Rattle.form_tokens.specs.declared.token.Prefix.{Prefix}
+use Rattle.form_tokens.specs.declared.token.Prefix.TheVariants as before
+use Rattle.form_tokens.specs.declared.token.Infix.{Infix}
+use Rattle.form_tokens.specs.declared.token.Infix.TheVariants as binary
+use Rattle.form_tokens.specs.declared.token.PathInfix.{PathInfix}
+use Rattle.form_tokens.specs.declared.token.PathInfix.TheVariants as path_binary
+use Rattle.form_tokens.specs.declared.token.Modality.{Modality}
+use Rattle.form_tokens.specs.declared.token.Modality.TheVariants as modalities
+use Rattle.form_tokens.specs.declared.token.Leaf.{Leaf}
+use Rattle.form_tokens.specs.declared.token.Leaf.TheVariants as leaf_tokens
+use Rattle.form_tokens.specs.declared.token.Token.{Token}
+use Rattle.form_tokens.specs.declared.token.Token.TheVariants as token
 use Rattle.form_reader.specs.Grammar.{leaf_of, prefixed, behind, joined, path_joined, Reads, Leads, ReadsGuard, leaf, prefix_of, modal_of, brackets, alone, infix_of, step_of, test_of, path_brackets, star_of, path_alone, path_infix_of, bare, braces}
 
 -- the number of the name is below p

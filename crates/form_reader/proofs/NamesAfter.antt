@@ -2,12 +2,12 @@
 use Rattle.std.proofs.Common.{◌≡◌, ℕ, zero, suc, ◌+◌, ◌-◌, ◌≤◌, ◌<◌, List, [], ◌∷◌, Option, Some, None, Result, Ok, Err, refl, sym, ap, ◌∙◌, arith, Bool, true, false, ◌&&◌, cond, nat_lt, nat_le, length, take, drop, subst, add-one}
 use Rattle.std.proofs.lemmas.Bool.{le-ltb, lt-ltb}
 use Rattle.forms.specs.Tree.{Formula}
-use Rattle.form_reader.specs.declared.dialect.Dialect.{Dialect}
+use Rattle.form_tokens.specs.declared.dialect.Dialect.{Dialect}
 use Rattle.form_reader.specs.declared.fault.FormFault.{FormFault}
 use Rattle.form_reader.specs.declared.fault.FormFault.TheVariants as faults
-use Rattle.form_reader.specs.Words.{is_blank, begins_word, goes_on}
-use Rattle.form_reader.specs.Names.{Table, is_listed, most_names}
-use Rattle.form_reader.specs.Spelling.{Lexeme, Sign, Word, Bad, pieces, piece_at, lexemes}
+use Rattle.form_tokens.specs.Words.{is_blank, begins_word, goes_on}
+use Rattle.form_tokens.specs.Names.{Table, is_listed, most_names}
+use Rattle.form_tokens.specs.Spelling.{Lexeme, Sign, Word, Bad, pieces, piece_at, lexemes}
 use Rattle.form_reader.specs.Faults.{token_of, names_with, names_after, is_bad, most_tokens, name_fault, before, before_fault, before_first}
 use Rattle.form_reader.specs.Reading.{refusal, accepted, KeepsNames}
 use Rattle.form_reader.specs.Waiting.{most_waiting}

@@ -11,7 +11,7 @@ use Rattle.form_reader.specs.declared.fault.FormFault.TheVariants as faults
 use Rattle.forms.specs.declared.form.Form.{Form}
 use Rattle.form_reader.specs.Blames.{Blames, Answers}
 use Rattle.form_reader.proofs.Turns.{Blames-map}
-use Rattle.form_reader.specs.Spelling.{Lexeme}
+use Rattle.form_tokens.specs.Spelling.{Lexeme}
 use Rattle.form_reader.specs.Waiting.{most_waiting}
 use Rattle.form_reader.specs.Admitted.{start, admits, after, waits_after, may_end}
 use Rattle.form_reader.specs.Machine.{State, Due, step, finish, waits, run_within}

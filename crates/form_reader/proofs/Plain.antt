@@ -3,14 +3,14 @@ use Rattle.std.proofs.Common.{◌≡◌, suc, ◌≤◌, ◌<◌, List, [], ◌�
 use Rattle.std.proofs.Math.Bool.{and-false}
 use Rattle.std.proofs.lemmas.Bool.Decides.{leb_tells}
 use Rattle.forms.specs.Tree.{Formula, Program}
-use Rattle.form_reader.specs.declared.token.Prefix.{Prefix}
-use Rattle.form_reader.specs.declared.token.Prefix.TheVariants as before
-use Rattle.form_reader.specs.declared.token.Infix.{Infix}
-use Rattle.form_reader.specs.declared.token.Infix.TheVariants as binary
-use Rattle.form_reader.specs.declared.token.Modality.{Modality}
-use Rattle.form_reader.specs.declared.token.Modality.TheVariants as modalities
-use Rattle.form_reader.specs.declared.token.Leaf.{Leaf}
-use Rattle.form_reader.specs.declared.token.Leaf.TheVariants as leaf_tokens
+use Rattle.form_tokens.specs.declared.token.Prefix.{Prefix}
+use Rattle.form_tokens.specs.declared.token.Prefix.TheVariants as before
+use Rattle.form_tokens.specs.declared.token.Infix.{Infix}
+use Rattle.form_tokens.specs.declared.token.Infix.TheVariants as binary
+use Rattle.form_tokens.specs.declared.token.Modality.{Modality}
+use Rattle.form_tokens.specs.declared.token.Modality.TheVariants as modalities
+use Rattle.form_tokens.specs.declared.token.Leaf.{Leaf}
+use Rattle.form_tokens.specs.declared.token.Leaf.TheVariants as leaf_tokens
 use Rattle.form_reader.specs.Grammar.{leaf_of, prefixed, behind, joined, level}
 use Rattle.form_reader.specs.Machine.{Item, Bracket, Brace, Before, Behind, Between, State, Due, After, extended, is_propositional}
 use Rattle.form_reader.specs.Admitted.{is_plain_prefix, is_plain_infix, is_plain_leaf}

@@ -6,12 +6,12 @@ use Rattle.std.proofs.lemmas.Bool.{le-ltb}
 use Rattle.std.specs.Option.{IfSome, is_some}
 use Rattle.forms.specs.Tree.{Formula, Program}
 use Rattle.forms.specs.Tree as formula
-use Rattle.form_reader.specs.declared.token.Infix.{Infix}
-use Rattle.form_reader.specs.declared.token.PathInfix.{PathInfix}
-use Rattle.form_reader.specs.declared.token.Modality.{Modality}
-use Rattle.form_reader.specs.declared.token.Modality.TheVariants as modalities
-use Rattle.form_reader.specs.declared.token.Token.{Token}
-use Rattle.form_reader.specs.declared.token.Token.TheVariants as token
+use Rattle.form_tokens.specs.declared.token.Infix.{Infix}
+use Rattle.form_tokens.specs.declared.token.PathInfix.{PathInfix}
+use Rattle.form_tokens.specs.declared.token.Modality.{Modality}
+use Rattle.form_tokens.specs.declared.token.Modality.TheVariants as modalities
+use Rattle.form_tokens.specs.declared.token.Token.{Token}
+use Rattle.form_tokens.specs.declared.token.Token.TheVariants as token
 use Rattle.form_reader.specs.Grammar.{prefixed, behind, joined, path_joined, level, path_level, unary}
 use Rattle.form_reader.specs.Waiting as kind
 use Rattle.form_reader.specs.Waiting.{Kind, loosened, path_loosened, after_close, innermost}

@@ -4,11 +4,11 @@ use Rattle.std.proofs.lemmas.Bool.Decides.{leb_tells}
 use Rattle.std.specs.Option.{IfSome}
 use Rattle.forms.specs.Tree.{Formula, Program}
 use Rattle.forms.specs.Tree as formula
-use Rattle.form_reader.specs.declared.token.Infix.{Infix}
-use Rattle.form_reader.specs.declared.token.PathInfix.{PathInfix}
-use Rattle.form_reader.specs.declared.token.Modality.TheVariants as modalities
-use Rattle.form_reader.specs.declared.token.Token.{Token}
-use Rattle.form_reader.specs.declared.token.Token.TheVariants as token
+use Rattle.form_tokens.specs.declared.token.Infix.{Infix}
+use Rattle.form_tokens.specs.declared.token.PathInfix.{PathInfix}
+use Rattle.form_tokens.specs.declared.token.Modality.TheVariants as modalities
+use Rattle.form_tokens.specs.declared.token.Token.{Token}
+use Rattle.form_tokens.specs.declared.token.Token.TheVariants as token
 use Rattle.form_reader.specs.Grammar.{prefixed, behind, joined, path_joined, level, path_level}
 use Rattle.form_reader.specs.Machine.{Item, Bracket, PathBracket, Brace, Angle, Before, Behind, Between, PathBetween, State, Due, After, PathDue, GuardRead, Based, Starred, extended, path_extended, closed, path_closed, step_starred, step_based, step_guard, step, is_propositional}
 use Rattle.form_reader.proofs.Complete.{Fits, PathFits}

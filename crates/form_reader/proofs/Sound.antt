@@ -4,13 +4,13 @@ use Rattle.std.proofs.lemmas.Bool.Decides.{leb_tells}
 use Rattle.std.specs.Option.{IfSome, option_and_then}
 use Rattle.forms.specs.Tree.{Formula, Program}
 use Rattle.forms.specs.Tree as formula
-use Rattle.form_reader.specs.declared.token.Prefix.{Prefix}
-use Rattle.form_reader.specs.declared.token.Infix.{Infix}
-use Rattle.form_reader.specs.declared.token.PathInfix.{PathInfix}
-use Rattle.form_reader.specs.declared.token.Modality.{Modality}
-use Rattle.form_reader.specs.declared.token.Modality.TheVariants as modalities
-use Rattle.form_reader.specs.declared.token.Token.{Token}
-use Rattle.form_reader.specs.declared.token.Token.TheVariants as token
+use Rattle.form_tokens.specs.declared.token.Prefix.{Prefix}
+use Rattle.form_tokens.specs.declared.token.Infix.{Infix}
+use Rattle.form_tokens.specs.declared.token.PathInfix.{PathInfix}
+use Rattle.form_tokens.specs.declared.token.Modality.{Modality}
+use Rattle.form_tokens.specs.declared.token.Modality.TheVariants as modalities
+use Rattle.form_tokens.specs.declared.token.Token.{Token}
+use Rattle.form_tokens.specs.declared.token.Token.TheVariants as token
 use Rattle.form_reader.specs.Grammar.{prefixed, behind, joined, path_joined, level, path_level, unary, star, base, Reads, Leads, ReadsGuard, IsText, leaf, prefix_of, modal_of, brackets, alone, infix_of, step_of, test_of, path_brackets, star_of, path_alone, path_infix_of, bare, braces}
 use Rattle.form_reader.specs.Machine.{Item, Bracket, PathBracket, Brace, Angle, Before, Behind, Between, PathBetween, State, Due, After, PathDue, GuardRead, Based, Starred, extended, path_extended, closed, path_closed, finished, step_starred, step_based, step_guard, step, is_propositional, run}
 use Rattle.form_reader.proofs.Propositional.{IsPropositional-tested}

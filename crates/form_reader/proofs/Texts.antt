@@ -8,20 +8,20 @@ use Rattle.std.specs.Str.{bytes_eq}
 use Rattle.forms.specs.Tree.{Formula, nodes, tree}
 use Rattle.forms.specs.Proper.{IsProper}
 use Rattle.forms.specs.declared.form.Form.{Form}
-use Rattle.form_reader.specs.declared.dialect.Dialect.{Dialect}
-use Rattle.form_reader.specs.declared.dialect.Dialect.TheVariants as dialects
-use Rattle.form_reader.specs.declared.token.Prefix.TheVariants as before
-use Rattle.form_reader.specs.declared.token.Infix.TheVariants as binary
-use Rattle.form_reader.specs.declared.token.PathInfix.TheVariants as path_binary
-use Rattle.form_reader.specs.declared.token.Modality.TheVariants as modalities
-use Rattle.form_reader.specs.declared.token.Leaf.TheVariants as leaf_tokens
-use Rattle.form_reader.specs.declared.token.Token.{Token}
-use Rattle.form_reader.specs.declared.token.Token.TheVariants as token
+use Rattle.form_tokens.specs.declared.dialect.Dialect.{Dialect}
+use Rattle.form_tokens.specs.declared.dialect.Dialect.TheVariants as dialects
+use Rattle.form_tokens.specs.declared.token.Prefix.TheVariants as before
+use Rattle.form_tokens.specs.declared.token.Infix.TheVariants as binary
+use Rattle.form_tokens.specs.declared.token.PathInfix.TheVariants as path_binary
+use Rattle.form_tokens.specs.declared.token.Modality.TheVariants as modalities
+use Rattle.form_tokens.specs.declared.token.Leaf.TheVariants as leaf_tokens
+use Rattle.form_tokens.specs.declared.token.Token.{Token}
+use Rattle.form_tokens.specs.declared.token.Token.TheVariants as token
 use Rattle.form_reader.specs.declared.fault.FormFault.{FormFault}
 use Rattle.form_reader.specs.declared.fault.FormFault.TheVariants as faults
-use Rattle.form_reader.specs.Words.{is_blank, begins_word, goes_on, is_constant, is_operator, is_unused, word_length, longest_word}
-use Rattle.form_reader.specs.Names.{Table, number_of, is_listed, included}
-use Rattle.form_reader.specs.Spelling.{Lexeme, Sign, Word, Bad, constant, operator, in_ltlf, last_of, end_of, word_lexeme, sign_at, dialect_sign, path_sign, of_one_byte, sign_piece, piece_at, pieces, lexemes}
+use Rattle.form_tokens.specs.Words.{is_blank, begins_word, goes_on, is_constant, is_operator, is_unused, word_length, longest_word}
+use Rattle.form_tokens.specs.Names.{Table, number_of, is_listed, included}
+use Rattle.form_tokens.specs.Spelling.{Lexeme, Sign, Word, Bad, constant, operator, in_ltlf, last_of, end_of, word_lexeme, sign_at, dialect_sign, path_sign, of_one_byte, sign_piece, piece_at, pieces, lexemes}
 use Rattle.form_reader.specs.Faults.{names_with, names_after, is_bad, most_tokens, name_fault, before_fault}
 use Rattle.form_reader.specs.Reading.{tokens, is_within, IsFormulaOf, refusal, accepted, KeepsNames, names_of}
 use Rattle.form_reader.specs.Machine.{Due}
@@ -29,7 +29,7 @@ use Rattle.form_reader.specs.Outcome.{outcome, stage_of}
 use Rattle.form_reader.specs.Blames.{Blames, Answers}
 use Rattle.form_reader.proofs.Measures.{IsNameBelow, AreNamesBelow, Reads-IsProper, Reads-nodes}
 use Rattle.std.proofs.Math.Seq.{take-append_seam}
-use Rattle.form_reader.proofs.NamesLemmas.{position_or_len-within, position_or_len-le}
+use Rattle.form_tokens.proofs.NamesLemmas.{position_or_len-within, position_or_len-le}
 use Rattle.form_reader.proofs.Outcomes.{outcome-found, Blames-first_fault}
 
 -- the token is no name

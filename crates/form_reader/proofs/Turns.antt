@@ -8,7 +8,7 @@ use Rattle.form_reader.specs.declared.item.Item.{Item}
 use Rattle.form_reader.specs.declared.item.Latest.{Latest}
 use Rattle.form_reader.specs.declared.item.Latest.TheVariants as latests
 use Rattle.form_reader.specs.Stack.{state_of}
-use Rattle.form_reader.specs.Spelling.{Lexeme}
+use Rattle.form_tokens.specs.Spelling.{Lexeme}
 use Rattle.form_reader.specs.Blames.{Blames}
 use Rattle.form_reader.specs.Waiting.{most_waiting}
 use Rattle.form_reader.specs.Machine.{State, step, waits}

@@ -1,15 +1,15 @@
 -- Which tokens may come next: by the last token and the innermost open bracket, with no tree and no precedence.
 use Rattle.std.specs.Prelude.{◌≡◌, List, [], ◌∷◌, Option, Some, Bool, true, false, ◌&&◌, ◌||◌, not, if◌then◌else◌, nat_le, length}
 use Rattle.std.specs.Option.{is_some}
-use Rattle.form_reader.specs.declared.token.Prefix.{Prefix}
-use Rattle.form_reader.specs.declared.token.Prefix.TheVariants as before
-use Rattle.form_reader.specs.declared.token.Infix.{Infix}
-use Rattle.form_reader.specs.declared.token.Infix.TheVariants as binary
-use Rattle.form_reader.specs.declared.token.Modality.TheVariants as modalities
-use Rattle.form_reader.specs.declared.token.Leaf.{Leaf}
-use Rattle.form_reader.specs.declared.token.Leaf.TheVariants as leaf_tokens
-use Rattle.form_reader.specs.declared.token.Token.{Token}
-use Rattle.form_reader.specs.declared.token.Token.TheVariants as token
+use Rattle.form_tokens.specs.declared.token.Prefix.{Prefix}
+use Rattle.form_tokens.specs.declared.token.Prefix.TheVariants as before
+use Rattle.form_tokens.specs.declared.token.Infix.{Infix}
+use Rattle.form_tokens.specs.declared.token.Infix.TheVariants as binary
+use Rattle.form_tokens.specs.declared.token.Modality.TheVariants as modalities
+use Rattle.form_tokens.specs.declared.token.Leaf.{Leaf}
+use Rattle.form_tokens.specs.declared.token.Leaf.TheVariants as leaf_tokens
+use Rattle.form_tokens.specs.declared.token.Token.{Token}
+use Rattle.form_tokens.specs.declared.token.Token.TheVariants as token
 use Rattle.form_reader.specs.Waiting.{Kind, Bracket, PathBracket, Brace, Angle, Unary, Binary, PathBinary, loosened, path_loosened, after_close, innermost, most_waiting}
 
 -- the rows of the table of admitted tokens

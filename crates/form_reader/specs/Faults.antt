@@ -1,12 +1,12 @@
 -- At which place a text is refused, and why.
 use Rattle.std.specs.Prelude.{ℕ, List, [], ◌∷◌, ◌+◌, Option, Some, None, Bool, true, false, not, if◌then◌else◌, nat_lt, nat_le, length}
-use Rattle.form_reader.specs.declared.token.Leaf.TheVariants as leaf_tokens
-use Rattle.form_reader.specs.declared.token.Token.{Token}
-use Rattle.form_reader.specs.declared.token.Token.TheVariants as token
+use Rattle.form_tokens.specs.declared.token.Leaf.TheVariants as leaf_tokens
+use Rattle.form_tokens.specs.declared.token.Token.{Token}
+use Rattle.form_tokens.specs.declared.token.Token.TheVariants as token
 use Rattle.form_reader.specs.declared.fault.FormFault.{FormFault}
 use Rattle.form_reader.specs.declared.fault.FormFault.TheVariants as faults
-use Rattle.form_reader.specs.Names.{number_of, is_listed, included, most_names}
-use Rattle.form_reader.specs.Spelling.{Lexeme, Sign, Word, Bad}
+use Rattle.form_tokens.specs.Names.{number_of, is_listed, included, most_names}
+use Rattle.form_tokens.specs.Spelling.{Lexeme, Sign, Word, Bad}
 use Rattle.form_reader.specs.Waiting.{most_waiting}
 use Rattle.form_reader.specs.Admitted.{Scan, admits, after, may_end}
 

@@ -3,18 +3,18 @@ use Rattle.std.specs.Prelude.{ℕ, suc, List, [], ◌∷◌}
 use Rattle.forms.specs.Tree.{Formula, Program}
 use Rattle.forms.specs.Proper.{IsPropositional}
 use Rattle.forms.specs.Tree as formula
-use Rattle.form_reader.specs.declared.token.Prefix.{Prefix}
-use Rattle.form_reader.specs.declared.token.Prefix.TheVariants as before
-use Rattle.form_reader.specs.declared.token.Infix.{Infix}
-use Rattle.form_reader.specs.declared.token.Infix.TheVariants as binary
-use Rattle.form_reader.specs.declared.token.PathInfix.{PathInfix}
-use Rattle.form_reader.specs.declared.token.PathInfix.TheVariants as path_binary
-use Rattle.form_reader.specs.declared.token.Modality.{Modality}
-use Rattle.form_reader.specs.declared.token.Modality.TheVariants as modalities
-use Rattle.form_reader.specs.declared.token.Leaf.{Leaf}
-use Rattle.form_reader.specs.declared.token.Leaf.TheVariants as leaf_tokens
-use Rattle.form_reader.specs.declared.token.Token.{Token}
-use Rattle.form_reader.specs.declared.token.Token.TheVariants as token
+use Rattle.form_tokens.specs.declared.token.Prefix.{Prefix}
+use Rattle.form_tokens.specs.declared.token.Prefix.TheVariants as before
+use Rattle.form_tokens.specs.declared.token.Infix.{Infix}
+use Rattle.form_tokens.specs.declared.token.Infix.TheVariants as binary
+use Rattle.form_tokens.specs.declared.token.PathInfix.{PathInfix}
+use Rattle.form_tokens.specs.declared.token.PathInfix.TheVariants as path_binary
+use Rattle.form_tokens.specs.declared.token.Modality.{Modality}
+use Rattle.form_tokens.specs.declared.token.Modality.TheVariants as modalities
+use Rattle.form_tokens.specs.declared.token.Leaf.{Leaf}
+use Rattle.form_tokens.specs.declared.token.Leaf.TheVariants as leaf_tokens
+use Rattle.form_tokens.specs.declared.token.Token.{Token}
+use Rattle.form_tokens.specs.declared.token.Token.TheVariants as token
 
 -- the formula of a name or a constant word
 abbrev pub leaf_of : Leaf → Formula

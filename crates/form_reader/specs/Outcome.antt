@@ -3,7 +3,7 @@ use Rattle.std.specs.Prelude.{ℕ, List, [], ◌∷◌, ◌+◌, Option, Some, N
 use Rattle.forms.specs.Tree.{Formula}
 use Rattle.form_reader.specs.declared.fault.FormFault.{FormFault}
 use Rattle.form_reader.specs.declared.fault.FormFault.TheVariants as faults
-use Rattle.form_reader.specs.Spelling.{Lexeme}
+use Rattle.form_tokens.specs.Spelling.{Lexeme}
 use Rattle.form_reader.specs.Waiting.{most_waiting}
 use Rattle.form_reader.specs.Faults.{token_of, names_with, is_bad, most_tokens, name_fault}
 use Rattle.form_reader.specs.Machine.{State, step, finish, waits}

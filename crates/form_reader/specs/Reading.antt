@@ -2,13 +2,13 @@
 use Rattle.std.specs.Prelude.{◌≡◌, ℕ, List, [], ◌∷◌, ◌+◌, Bool, true, not, ◌&&◌, nat_le, take, Option}
 use Rattle.std.specs.Option.{is_some}
 use Rattle.forms.specs.Tree.{Formula}
-use Rattle.form_reader.specs.declared.dialect.Dialect.{Dialect}
-use Rattle.form_reader.specs.declared.token.Token.{Token}
+use Rattle.form_tokens.specs.declared.dialect.Dialect.{Dialect}
+use Rattle.form_tokens.specs.declared.token.Token.{Token}
 use Rattle.form_reader.specs.declared.fault.FormFault.{FormFault}
 use Rattle.form_reader.specs.declared.fault.FormFault.TheVariants as faults
-use Rattle.form_reader.specs.Names.{Table}
+use Rattle.form_tokens.specs.Names.{Table}
 use Rattle.form_reader.specs.Grammar.{IsText}
-use Rattle.form_reader.specs.Spelling.{Lexeme, lexemes}
+use Rattle.form_tokens.specs.Spelling.{Lexeme, lexemes}
 use Rattle.form_reader.specs.Admitted.{start, is_shallow}
 use Rattle.form_reader.specs.Faults.{token_of, names_with, is_bad, most_tokens, name_fault, names_after, before_fault, before_first, first_fault}
 

@@ -5,9 +5,9 @@ use Rattle.forms.specs.declared.form.Path.{Path}
 use Rattle.forms.specs.Tree.{Formula, Program, tree, program}
 use Rattle.form_reader.specs.declared.step.StepFault.{StepFault}
 use Rattle.form_reader.specs.declared.step.StepFault.TheVariants as faults
-use Rattle.form_reader.specs.declared.token.Infix.{Infix}
-use Rattle.form_reader.specs.declared.token.PathInfix.{PathInfix}
-use Rattle.form_reader.specs.declared.token.Token.{Token}
+use Rattle.form_tokens.specs.declared.token.Infix.{Infix}
+use Rattle.form_tokens.specs.declared.token.PathInfix.{PathInfix}
+use Rattle.form_tokens.specs.declared.token.Token.{Token}
 use Rattle.form_reader.specs.declared.item.Bracket.{Bracket}
 use Rattle.form_reader.specs.declared.item.Bracket.TheVariants as brackets
 use Rattle.form_reader.specs.declared.item.Operator.{Operator}

@@ -1,11 +1,11 @@
 -- What the answer to one lexeme says.
 use Rattle.std.specs.Prelude.{◌≡◌, ℕ, List, Result, Ok, Err, Some, None, Bool, false, nat_le}
 use Rattle.form_reader.specs.declared.fault.FormFault.{FormFault}
-use Rattle.form_reader.specs.declared.token.Token.{Token}
+use Rattle.form_tokens.specs.declared.token.Token.{Token}
 use Rattle.form_reader.specs.declared.item.Item.{Item}
 use Rattle.form_reader.specs.declared.item.Latest.{Latest}
-use Rattle.form_reader.specs.Names.{Table}
-use Rattle.form_reader.specs.Spelling.{Lexeme}
+use Rattle.form_tokens.specs.Names.{Table}
+use Rattle.form_tokens.specs.Spelling.{Lexeme}
 use Rattle.form_reader.specs.Faults.{token_of, names_with, is_bad, most_tokens, name_fault}
 use Rattle.form_reader.specs.Outcome.{Stage, turn, stage_of}
 use Rattle.form_reader.specs.Blames.{Blames}

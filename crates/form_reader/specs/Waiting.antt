@@ -1,8 +1,8 @@
 -- The kinds of items that wait, which of them operators and closing brackets leave, and how many may wait.
 use Rattle.std.specs.Prelude.{ℕ, List, [], ◌∷◌, Option, Some, None, if◌then◌else◌, nat_lt}
-use Rattle.form_reader.specs.declared.token.Infix.{Infix}
-use Rattle.form_reader.specs.declared.token.PathInfix.{PathInfix}
-use Rattle.form_reader.specs.declared.token.Modality.{Modality}
+use Rattle.form_tokens.specs.declared.token.Infix.{Infix}
+use Rattle.form_tokens.specs.declared.token.PathInfix.{PathInfix}
+use Rattle.form_tokens.specs.declared.token.Modality.{Modality}
 use Rattle.form_reader.specs.Grammar.{level, path_level}
 
 -- the kind of an item that waits

@@ -1,3 +1,4 @@
+//! Formulas and paths made of an operator and its operands.
 ghost use Rattle.std.specs.Prelude.{◌≡◌, IfOk, true, false};
 ghost use Rattle.forms.specs.Tree.{tree, program};
 ghost use Rattle.forms.specs.Tree as formula;
@@ -7,8 +8,8 @@ ghost use Rattle.form_reader.specs.Stack.{applied};
 
 use crate::item::Operator;
 use crate::operand::Operand;
-use crate::token::{Infix, Leaf, Modality, PathInfix, Prefix};
 use bes_io::Memory;
+use form_tokens::{Infix, Leaf, Modality, PathInfix, Prefix};
 use forms::{Form, Path};
 use std::alloc::Global;
 

@@ -1,3 +1,4 @@
+//! Why a text gives no formula.
 /// Why a text gives no formula, and at which byte, counted from 1.
 #[derive(Clone, Copy, Debug, PartialEq, Eq)]
 pub enum FormFault {

@@ -1,5 +1,6 @@
+//! What waits while a formula is read, and what was read last.
 use crate::operand::Operand;
-use crate::token::{Infix, Modality, PathInfix, Prefix};
+use form_tokens::{Infix, Modality, PathInfix, Prefix};
 use forms::Path;
 
 /// An open bracket.

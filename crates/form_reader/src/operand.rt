@@ -1,3 +1,4 @@
+//! A formula that may be a step of a path.
 ghost use Rattle.std.specs.Prelude.{◌≡◌};
 ghost use Rattle.forms.specs.Tree.{tree};
 ghost use Rattle.form_reader.specs.Machine.{is_propositional};

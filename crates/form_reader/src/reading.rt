@@ -1,26 +1,23 @@
+//! The formula of a text, token by token.
 ghost use Rattle.std.specs.Prelude.{◌≡◌, ◌<◌, ◌+◌, ◌^◌, ◌↔◌, true, Ok, Some, None, [], IfOk, IfErr, OnOk, OnErr, length, take};
 ghost use Rattle.forms.specs.Tree.{Formula, tree, nodes};
 ghost use Rattle.forms.specs.Proper.{IsProper};
-ghost use Rattle.form_reader.specs.Words.{is_name};
-ghost use Rattle.form_reader.specs.Names.{number_of};
+ghost use Rattle.form_tokens.specs.Words.{is_name};
 ghost use Rattle.form_reader.specs.Grammar.{IsText};
 ghost use Rattle.form_reader.specs.Admitted.{IsAdmitted};
-ghost use Rattle.form_reader.specs.Spelling.{Word, lexemes};
+ghost use Rattle.form_tokens.specs.Spelling.{Word, lexemes};
 ghost use Rattle.form_reader.specs.Reading.{IsFormulaOf, refusal, tokens_of, names_of, KeepsNames};
 ghost use Rattle.form_reader.specs.Machine.{Due, finish};
 ghost use Rattle.form_reader.specs.Outcome.{outcome, ended, stage_of};
 ghost use Rattle.form_reader.specs.Blames.{Blames, Answers};
-ghost use Rattle.form_reader.specs.Found.{lexeme_at, IsWithin};
+ghost use Rattle.form_tokens.specs.Found.{lexeme_at, IsWithin};
 ghost use Rattle.form_reader.specs.Stack.{state_of};
 ghost use Rattle.form_reader.specs.Turns.{GivesToken, AddsName, Turns, stage_at};
 
-use crate::dialect::Dialect;
 use crate::fault::FormFault;
 use crate::item::{Item, Latest};
-use crate::names::Names;
-use crate::spelling::{Found, Lexeme, next};
 use crate::step::{StepFault, finish, step};
-use crate::token::{Leaf, Token};
+use form_tokens::{Dialect, Found, Leaf, Lexeme, Names, Token, next_lexeme};
 use forms::Form;
 use std::alloc::Global;
 
@@ -40,7 +37,7 @@ fn token_at(names: &Names, text: &[u8], found: &Found, count: usize) -> Result<T
             at: place(text, found),
         }),
         Lexeme::Sign(token) => token,
-        Lexeme::Word => Token::Leaf(Leaf::Name(number(names, &text[found.from..found.to]))),
+        Lexeme::Word => Token::Leaf(Leaf::Name(names.number(&text[found.from..found.to]))),
     };
     if count >= MOST_TOKENS {
         return Err(FormFault::TooManyTokens {
@@ -59,17 +56,6 @@ fn place(text: &[u8], found: &Found) -> u64
     text[..found.from].len() as u64 + 1
 }
 
-/// The number of a name, or that which it will get.
-#[tactic(auto, using(crate::proofs::NamesLemmas::positions))]
-fn number(names: &Names, name: &[u8]) -> u32
-    ensures { result ≡ number_of names.now.names name.now }
-{
-    match names.find(name) {
-        Some(i) => i,
-        None => names.len(),
-    }
-}
-
 /// Puts a name into the table where it is not there.
 fn include(names: &mut Names, name: &[u8], at: u64) -> Result<(), FormFault>
     requires { is_name name.now ≡ true }
@@ -86,8 +72,8 @@ fn include(names: &mut Names, name: &[u8], at: u64) -> Result<(), FormFault>
     if names.len() >= MOST_NAMES {
         return Err(FormFault::TooManyNames { at });
     }
-    match names.append(name) {
-        Ok(()) => Ok(()),
+    match names.add(name) {
+        Ok(_) => Ok(()),
         Err(_) => Err(FormFault::Memory),
     }
 }
@@ -178,7 +164,7 @@ fn read_text(
     let mut from = 0;
     let mut in_word = false;
     let mut count = 0;
-    while let Some(found) = next(dialect, text, from, in_word) {
+    while let Some(found) = next_lexeme(dialect, text, from, in_word) {
         latest = read_one(alloc, names, &mut waiting, latest, text, &found, count)?;
         from = found.to;
         in_word = found.is_word;

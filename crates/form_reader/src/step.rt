@@ -1,3 +1,4 @@
+//! What one token does to what waits.
 ghost use Rattle.std.specs.Prelude.{◌≡◌, ◌<◌, IfSome, ◌∷◌, vec_len};
 ghost use Rattle.forms.specs.Tree.{tree, program};
 ghost use Rattle.form_reader.specs.Grammar as grammar;
@@ -8,8 +9,8 @@ ghost use Rattle.form_reader.specs.Stack.{item as item_of, tighter_than, path_ti
 use crate::building::{apply, joined_paths, leaf, star_path, step_path, test_path};
 use crate::item::{Bracket, Item, Latest, Operator};
 use crate::operand::Operand;
-use crate::token::{Infix, Modality, PathInfix, Token};
 use bes_io::Memory;
+use form_tokens::{Infix, Modality, PathInfix, Token};
 use forms::{Form, Path};
 use std::alloc::{AllocFailed, Global};
 

@@ -4,7 +4,7 @@ use Rattle.std.specs.Prelude.{◌==◌}
 use Rattle.std.proofs.lemmas.Bool.{ltb-true, ltb-false, ne_eqb, cases_Bool}
 use Rattle.std.proofs.lemmas.Nat.{pow_pos}
 use Rattle.bes_io.specs.Letter.{has}
-use Rattle.form_reader.specs.Names.{number_of}
+use Rattle.form_tokens.specs.Names.{number_of}
 use Rattle.spec_reader.specs.declared.events.Mode.{Mode}
 use Rattle.spec_reader.specs.declared.events.EventFault.{EventFault}
 use Rattle.spec_reader.specs.declared.events.EventFault.TheVariants.{BadByte, UnknownName}

@@ -1,9 +1,9 @@
 -- Going along a line by index.
 use Rattle.std.proofs.Common.{◌≡◌, ℕ, zero, suc, ◌+◌, ◌-◌, ◌<◌, ◌≤◌, List, [], ◌∷◌, length, take, drop, get_or, true, false, ap, sym, ◌∙◌, arith, add-zero}
 use Rattle.std.proofs.lemmas.List.{length-drop, drop-drop, drop_all, take_rest}
-use Rattle.form_reader.specs.Words.{is_blank, begins_word, word_length}
+use Rattle.form_tokens.specs.Words.{is_blank, begins_word, word_length}
 use Rattle.spec_reader.specs.Event.{Piece, Stray, run_pieces, pieces_from}
-use Rattle.form_reader.proofs.Pieces.{word_length-le}
+use Rattle.form_tokens.proofs.Pieces.{word_length-le}
 
 -- the pieces from index i of a line on
 abbrev pub pieces_at : List ℕ → ℕ → List Piece

@@ -2,7 +2,7 @@
 use Rattle.std.proofs.Common.{◌≡◌, ℕ, ◌+◌, ◌<◌, ◌≤◌, min, Bool, true, false, cond, List, length, take, get_or, Option, Some, None, Result, Ok, Err, refl, sym, ap, ◌∙◌}
 use Rattle.std.specs.Option.{ok_or}
 use Rattle.std.proofs.lemmas.Bool.{lt-ltb, le-ltb}
-use Rattle.form_reader.specs.Words.{is_blank, begins_word, word_length, longest_word}
+use Rattle.form_tokens.specs.Words.{is_blank, begins_word, word_length, longest_word}
 use Rattle.spec_reader.specs.declared.events.Mode.{Mode}
 use Rattle.spec_reader.specs.declared.events.EventFault.{EventFault}
 use Rattle.spec_reader.specs.declared.events.EventFault.TheVariants.{BadByte, UnknownName}

@@ -1,8 +1,8 @@
 -- Event lines: words between blanks, and the letter that they give.
 use Rattle.std.specs.Prelude.{◌≡◌, ℕ, zero, suc, ◌+◌, ◌^◌, ◌<◌, ◌==◌, ◌&&◌, ◌||◌, if◌then◌else◌, nat_lt, nat_le, min, List, [], ◌∷◌, length, take, Bool, true, false, Option, Some, None}
 use Rattle.bes_io.specs.Letter.{has}
-use Rattle.form_reader.specs.Names.{number_of}
-use Rattle.form_reader.specs.Words.{is_blank, begins_word, word_length, longest_word}
+use Rattle.form_tokens.specs.Names.{number_of}
+use Rattle.form_tokens.specs.Words.{is_blank, begins_word, word_length, longest_word}
 use Rattle.spec_reader.specs.declared.events.Mode.{Mode}
 use Rattle.spec_reader.specs.declared.events.Mode.TheVariants.{Ignore, Only}
 use Rattle.spec_reader.specs.declared.events.EventFault.{EventFault}

@@ -1,6 +1,6 @@
 -- What one word of a line adds to the letter.
 use Rattle.std.specs.Prelude.{ℕ, ◌-◌, ◌^◌, if◌then◌else◌, bit_or, List, length}
-use Rattle.form_reader.specs.Names.{number_of}
+use Rattle.form_tokens.specs.Names.{number_of}
 use Rattle.spec_reader.specs.Event.{is_known}
 
 -- the letter with the word's proposition, if the word is a name

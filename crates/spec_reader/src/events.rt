@@ -3,7 +3,7 @@ ghost use Rattle.std.specs.Prelude.{◌≡◌, ℕ, IfOk, IfErr, Some, None, Ok,
 ghost use Rattle.spec_reader.specs.Event.{IsEventOf, event_fault, is_admitted};
 ghost use Rattle.spec_reader.specs.Word.{with_word};
 
-use form_reader::{LONGEST_WORD, Names, begins_word, is_blank, word_length};
+use form_tokens::{LONGEST_WORD, Names, begins_word, is_blank, word_length};
 
 /// Which words of a line are admitted.
 #[derive(Clone, Copy, Debug, PartialEq, Eq)]

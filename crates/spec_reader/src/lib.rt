@@ -1,7 +1,7 @@
 //! The events of a trace, one a line.
 //!
 //! `specs/Event.antt` says which letter a line gives, and where it is refused first. Names and
-//! the spelling of words are those of `form_reader`.
+//! the spelling of words are those of `form_tokens`.
 #![tactic(auto)]
 
 mod events;

@@ -1,9 +1,11 @@
 //! Texts that are read, refused and printed.
 use bes_io::Text;
+use form_printer::{print_form, print_part};
 use form_reader::FormFault::{
     BadByte, TooDeep, TooManyNames, TooManyTokens, Unexpected, Unfinished,
 };
-use form_reader::{Dialect, FormFault, NameFault, Names, print_form, print_part, read_form};
+use form_reader::{FormFault, read_form};
+use form_tokens::{Dialect, NameFault, Names};
 use forms::{Form, parts};
 use std::alloc::Global;
 use std::test::Fail;

@@ -1,5 +1,5 @@
 //! Event lines.
-use form_reader::Names;
+use form_tokens::Names;
 use spec_reader::{EventFault, Mode, read_event};
 use std::test::Fail;
 

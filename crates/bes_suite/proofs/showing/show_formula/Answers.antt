@@ -1,6 +1,6 @@
 use Rattle.std.proofs.Common.{◌≡◌, ℕ, List, [], refl, sym, subst, ◌∙◌, ap}
 use Rattle.forms.specs.Tree.{Formula, tree}
-use Rattle.form_reader.specs.declared.dialect.Dialect.{Dialect}
+use Rattle.form_tokens.specs.declared.dialect.Dialect.{Dialect}
 use Rattle.bes_suite.specs.declared.endings.Ending.TheVariants.{Positive}
 use Rattle.bes_suite.specs.Formulas.{IsFormula}
 use Rattle.bes_suite.specs.Showing.{FormsAnswers, formula_refused, formula_shown, form_lines}

@@ -1,4 +1,4 @@
-use Rattle.form_reader.specs.Spelling.{lexemes}
+use Rattle.form_tokens.specs.Spelling.{lexemes}
 use Rattle.form_reader.specs.Reading.{tokens_of}
 use Rattle.form_reader.proofs.Complete.{one_tree}
 use Rattle.form_reader.proofs.Laws.{text-admitted}

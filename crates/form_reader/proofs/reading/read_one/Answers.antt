@@ -2,7 +2,7 @@ use Rattle.std.proofs.Common.{◌≡◌, ◌+◌, ◌≤◌, ◌<◌, Some, Err,
 use Rattle.form_reader.specs.declared.fault.FormFault.TheVariants as faults
 use Rattle.form_reader.specs.Machine.{step, waits}
 use Rattle.form_reader.specs.Waiting.{most_waiting}
-use Rattle.form_reader.specs.Found.{lexeme_at}
+use Rattle.form_tokens.specs.Found.{lexeme_at}
 use Rattle.form_reader.specs.Faults.{token_of}
 use Rattle.form_reader.specs.Outcome.{stage_of}
 use Rattle.form_reader.specs.Stack.{state_of}

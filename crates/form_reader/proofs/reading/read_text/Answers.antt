@@ -1,7 +1,7 @@
 use Rattle.std.proofs.Common.{◌≡◌, ◌+◌, ◌∷◌, zero, sym, ap, ◌∙◌, arith, drop, rules, subst, Err, IfErr}
-use Rattle.form_reader.specs.Spelling.{pieces, lexemes}
+use Rattle.form_tokens.specs.Spelling.{pieces, lexemes}
 use Rattle.form_reader.specs.Faults.{names_with}
-use Rattle.form_reader.specs.Found.{lexeme_at}
+use Rattle.form_tokens.specs.Found.{lexeme_at}
 use Rattle.form_reader.specs.Machine.{finish}
 use Rattle.form_reader.specs.Outcome.{stage_of, outcome}
 use Rattle.form_reader.specs.Stack.{state_of}

@@ -1,5 +1,5 @@
 use Rattle.std.proofs.Common.{◌≡◌, ◌≤◌, ◌+◌, ◌-◌, [], zero, length, take, drop}
-use Rattle.form_reader.specs.Spelling.{pieces, lexemes}
+use Rattle.form_tokens.specs.Spelling.{pieces, lexemes}
 use Rattle.form_reader.specs.Faults.{names_after}
 use Rattle.form_reader.specs.Machine.{Due}
 use Rattle.form_reader.specs.Outcome.{outcome, stage_of}

@@ -1,7 +1,7 @@
 use Rattle.std.proofs.Common.{◌≡◌, ◌+◌, get_or, false, true, Ok, Err, sym, ap, ◌∙◌, rules}
 use Rattle.std.specs.Option.{ok_or}
 use Rattle.std.proofs.lemmas.Result.{err_from_is_err_and}
-use Rattle.form_reader.specs.Words.{is_blank, begins_word}
+use Rattle.form_tokens.specs.Words.{is_blank, begins_word}
 use Rattle.spec_reader.specs.declared.events.EventFault.TheVariants.{BadByte, UnknownName}
 use Rattle.spec_reader.specs.Event.{pieces}
 use Rattle.spec_reader.proofs.Outcome.{outcome, Answer, Answer-outcome}

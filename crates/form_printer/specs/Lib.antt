@@ -1,0 +1,4 @@
+pub mod Printed
+pub mod Dialects
+pub mod ReadBack
+pub mod PartSearch

@@ -1,5 +1,0 @@
-use Rattle.form_reader.proofs.Signs.{piece_at-longest}
-use Rattle.form_reader.proofs.spelling.laws_of_tokens.Goals as goal
-
-pub returns : goal.returns
-returns c = piece_at-longest
