@@ -1,5 +1,5 @@
 -- A formula whose counts are all within the limit.
-use Rattle.std.proofs.Common.{◌≡◌, ℕ, zero, suc, ◌<◌, ◌≤◌, List, length, sym, ap, subst, arith, inl, inr}
+use Rattle.std.proofs.Common.{◌≡◌, ℕ, zero, suc, ◌<◌, ◌≤◌, List, length, false, sym, ap, subst, arith, inl, inr}
 use Rattle.std.specs.Prelude.{All, slice_index}
 use Rattle.std.proofs.lemmas.Bool.{cases_lt}
 use Rattle.std.proofs.lemmas.Option.{slice_get_past}
@@ -23,27 +23,27 @@ use Rattle.bes_suite.proofs.Performing.{refusal, no-memory}
 use Rattle.bes_suite.specs.Monitoring.{AreWithin, IsMonitored, IsFormulaWithinLimit, MonitorAnswers, monitored, too_many}
 
 -- there is no part after the last, so what is counted there is the whole
-whole-count : (p : ℕ) (f : Formula) (count : ℕ) → HasClassCount p (λ w. meets p f w) count → HasCount p f (suc (length (parts f))) count
-whole-count p f count has = subst (λ c. HasClassCount p c count) (sym (ap (claim_of p f) (slice_get_past (parts f) (length (parts f)) (omega arith)))) has
+whole-count : (p : ℕ) (f : Formula) (count : ℕ) → HasClassCount p (λ w. meets p f w) count → HasCount p f false (suc (length (parts f))) count
+whole-count p f count has = subst (λ c. HasClassCount p c count) (sym (ap (claim_of p f false) (slice_get_past (parts f) (length (parts f)) (omega arith)))) has
 
 module _ (p : ℕ) (f : Formula) (counts : List ℕ) (whole : ℕ) (counted : AreCounts p f counts) (within : All (λ count. count ≤ most_classes) counts)
     (has : HasClassCount p (λ w. meets p f w) whole) (small : whole ≤ most_classes) where
-  within-at : (k : ℕ) → 0 < k → k ≤ suc (length (parts f)) → IsWithin p f most_classes k
+  within-at : (k : ℕ) → 0 < k → k ≤ suc (length (parts f)) → IsWithin p f false most_classes k
   within-at zero some last = absurd (omega arith)
   within-at (suc j) some last =
       elim (cases_lt j (length counts)) [
-        | inl h ↦ record { count = slice_index counts j; has = counted.count j h; within = within j 0 h }
+        | inl h ↦ record { count = slice_index counts j; has = counted.count j false h; within = within j 0 h }
         | inr h ↦
             let e : suc (length (parts f)) ≡ suc j = omega (arith, counted.size, h, last) in
-            record { count = whole; has = subst (λ k. HasCount p f k whole) e (whole-count p f whole has); within = small }
+            record { count = whole; has = subst (λ k. HasCount p f false k whole) e (whole-count p f whole has); within = small }
       ]
 
   -- each part and the whole are within the limit
   pub all-within : (names : List (List ℕ)) → p ≡ length names → AreWithin names f
-  all-within names e k some last = subst (λ q. IsWithin q f most_classes k) e (within-at k some last)
+  all-within names e k some last = subst (λ q. IsWithin q f false most_classes k) e (within-at k some last)
 
 -- a formula with a part over the limit is not within it
-pub over-or-within : (names : List (List ℕ)) (f : Formula) (part count : ℕ) → IsFirstOver (length names) f most_classes part count → AreWithin names f → ⊥
+pub over-or-within : (names : List (List ℕ)) (f : Formula) (part count : ℕ) → IsFirstOver (length names) f false most_classes part count → AreWithin names f → ⊥
 over-or-within names f part count over within =
     let w = within part over.some over.last in
     let same = class_count_is_one (length names) _ count w.count over.has w.has in
@@ -62,19 +62,19 @@ within_limit dialect text names f is same within = (f, is, subst (λ n. AreWithi
 
 -- a formula that can't be opened ends the run
 limit-ends : (dialect : Dialect) (text : List ℕ) (names : List (List ℕ)) (f : Formula) → IsFormula dialect text f → names ≡ names_of dialect text → (before after : World)
-    → KeepsCounts before after → after.held ≡ before.held → (fault : TranslateFault) → IfTooMany fault (IsFirstOver (length names) f most_classes)
+    → KeepsCounts before after → after.held ≡ before.held → (fault : TranslateFault) → IfTooMany fault (IsFirstOver (length names) f false most_classes)
     → Performs needs_input (λ files bytes. MonitorAnswers dialect text bytes) (IsFormulaWithinLimit dialect text) before after (ending_at_limit fault)
 limit-ends dialect text names f is same before after keeps held Memory over = no-memory needs_input _ _ before after keeps
 limit-ends dialect text names f is same before after keeps held (TooMany part count) over =
-    let first : IsFirstOver (length (names_of dialect text)) f most_classes part count = subst (λ n. IsFirstOver (length n) f most_classes part count) same over in
+    let first : IsFirstOver (length (names_of dialect text)) f false most_classes part count = subst (λ n. IsFirstOver (length n) f false most_classes part count) same over in
     refusal needs_input _ _ before after (refused.TooMany part count) (λ files rest tells. too_many is first)
     (λ early may. over-or-within (names_of dialect text) may.0 part count
-    (subst (λ g. IsFirstOver (length (names_of dialect text)) g most_classes part count) (one-formula dialect text f may.0 is may.1) first) may.2)
+    (subst (λ g. IsFirstOver (length (names_of dialect text)) g false most_classes part count) (one-formula dialect text f may.0 is may.1) first) may.2)
     keeps held
 
 -- the same, of the ending that the run has
 pub limit-ends-so : (dialect : Dialect) (text : List ℕ) (names : List (List ℕ)) (f : Formula) → IsFormula dialect text f → names ≡ names_of dialect text → (before after : World)
-    → KeepsCounts before after → after.held ≡ before.held → (fault : TranslateFault) → IfTooMany fault (IsFirstOver (length names) f most_classes)
+    → KeepsCounts before after → after.held ≡ before.held → (fault : TranslateFault) → IfTooMany fault (IsFirstOver (length names) f false most_classes)
     → (ending : Ending) → ending ≡ ending_at_limit fault
     → Performs needs_input (λ files bytes. MonitorAnswers dialect text bytes) (IsFormulaWithinLimit dialect text) before after ending
 limit-ends-so dialect text names f is same before after keeps held fault over ending e =

@@ -1,5 +1,5 @@
 -- A formula is translated in one way.
-use Rattle.std.proofs.Common.{◌≡◌, ℕ, ◌≤◌, List, [], suc, refl, sym, ◌∙◌, ap, subst, length}
+use Rattle.std.proofs.Common.{◌≡◌, ℕ, ◌≤◌, List, [], suc, false, refl, sym, ◌∙◌, ap, subst, length}
 use Rattle.std.specs.Prelude.{slice_index, All}
 use Rattle.std.proofs.lemmas.List.{ext_get_or}
 use Rattle.forms.specs.Tree.{Formula}
@@ -38,7 +38,7 @@ counts-one : (p : ℕ) (f : Formula) (xs ys : List ℕ) → AreCounts p f xs →
 counts-one p f xs ys x y =
     let size : length xs ≡ length ys = x.size ∙ sym y.size in
     ext_get_or 0 xs ys size
-    (λ i h. class_count_is_one p (claim_of p f (part f (suc i))) (slice_index xs i) (slice_index ys i) (x.count i h) (y.count i (rw (sym size) h)))
+    (λ i h. class_count_is_one p (claim_of p f false (part f (suc i))) (slice_index xs i) (slice_index ys i) (x.count i false h) (y.count i false (rw (sym size) h)))
 
 -- the automaton of a translation is the only one, and none is smaller
 pub only-automaton : (names : List (List ℕ)) (f : Formula) (text : List ℕ) (t : IsTranslation names f text) → IsOnlyFor (length names) t.automaton (λ w. meets (length names) f w)
@@ -72,9 +72,9 @@ translation-one names f xs ys x y =
     ∙ sym y.whole
 
 -- a formula that is over the limit has no text
-pub over-or-translated : (names : List (List ℕ)) (f : Formula) (part count : ℕ) (text : List ℕ) → IsFirstOver (length names) f most_classes part count → IsTranslation names f text → ⊥
+pub over-or-translated : (names : List (List ℕ)) (f : Formula) (part count : ℕ) (text : List ℕ) → IsFirstOver (length names) f false most_classes part count → IsTranslation names f text → ⊥
 over-or-translated names f part count text over t =
-    first_over_is_not_within (length names) f most_classes part count t.automaton.size t.counts over t.counted t.within
+    first_over_is_not_within (length names) f false most_classes part count t.automaton.size t.counts over t.counted t.within
     (size_is_class_count (length names) t.automaton (λ w. meets (length names) f w) t.least.least t.least.decides) t.small
 
 -- the lines of a table are those of what it does
@@ -125,7 +125,7 @@ translation-due dialect text f is output t none =
     text-some (names_of dialect text) f t.counts t.automaton.size t.table t.words (sym t.whole ∙ none (record { output = output; ending = Positive }) (translated f is t))
 
 -- a formula over the limit ends the run
-pub limit-ends : (dialect : Dialect) (text : List ℕ) (before after : World) (f : Formula) → IsFormula dialect text f → (fault : TranslateFault) → IfTooMany fault (IsFirstOver (length (names_of dialect text)) f most_classes)
+pub limit-ends : (dialect : Dialect) (text : List ℕ) (before after : World) (f : Formula) → IsFormula dialect text f → (fault : TranslateFault) → IfTooMany fault (IsFirstOver (length (names_of dialect text)) f false most_classes)
     → KeepsCounts before after → after.held ≡ before.held → Performs needs_nothing (λ files rest. TranslateAnswers dialect text) ⊥ before after (ending_at_limit fault)
 limit-ends dialect text before after f is (TooMany part count) over keeps held =
     refusal needs_nothing (λ files rest. TranslateAnswers dialect text) ⊥ before after (refused.TooMany part count) (λ files rest tells. too_many f is over) (λ early may. may) keeps held

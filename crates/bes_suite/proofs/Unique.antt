@@ -1,5 +1,5 @@
 -- The words, the named file and the input ask for one thing.
-use Rattle.std.proofs.Common.{◌≡◌, ℕ, ◌∷◌, List, [], length, sym, refl, ◌∙◌, ap, subst, Some, None}
+use Rattle.std.proofs.Common.{◌≡◌, ℕ, ◌∷◌, List, [], length, false, sym, refl, ◌∙◌, ap, subst, Some, None}
 use Rattle.bes_io.specs.Lines.{Stop, at_end, HasLines}
 use Rattle.forms.specs.Satisfaction.{meets}
 use Rattle.form_tokens.specs.declared.dialect.Dialect.{Dialect}
@@ -109,12 +109,12 @@ one-translation {dialect} {text} (translation.too_many f a over) (translation.fo
 one-translation {dialect} {text} (translation.too_many {part = i} {count = m} f a over) (translation.too_many {part = j} {count = n} g b under) =
     let names = names_of dialect text in
     let forms : f ≡ g = one-formula dialect text f g a b in
-    let one = first_over_is_one (length names) g most_classes i j m n (subst (λ z. IsFirstOver (length names) z most_classes i m) forms over) under in
+    let one = first_over_is_one (length names) g false most_classes i j m n (subst (λ z. IsFirstOver (length names) z false most_classes i m) forms over) under in
     ap (λ k. refusing (refusal.TooMany k m)) one.0 ∙ ap (λ k. refusing (refusal.TooMany j k)) one.1
 one-translation {dialect} {text} (translation.too_many {part = i} {count = m} f a over) (translation.translated {output = out} g b made) =
     let names = names_of dialect text in
     let forms : f ≡ g = one-formula dialect text f g a b in
-    absurd (over-or-translated names g i m out (subst (λ z. IsFirstOver (length names) z most_classes i m) forms over) made)
+    absurd (over-or-translated names g i m out (subst (λ z. IsFirstOver (length names) z false most_classes i m) forms over) made)
 one-translation {dialect} {text} (translation.translated f a made) (translation.formula_refused b) = absurd (formula-or-fault dialect text _ _ a b)
 one-translation {dialect} {text} (translation.translated {output = out} f a made) (translation.too_many {part = i} {count = m} g b over) =
     let names = names_of dialect text in
@@ -134,11 +134,11 @@ one-monitoring {dialect = dialect} {text = text} (monitoring.formula_refused a) 
 one-monitoring {dialect = dialect} {text = text} (monitoring.too_many a h) (monitoring.formula_refused b) = absurd (formula-or-fault dialect text _ _ a b)
 one-monitoring {dialect = dialect} {text = text} (monitoring.too_many {f = f} {part = i} {count = m} a h) (monitoring.too_many {f = g} {part = j} {count = n} b k) =
     let p = length (names_of dialect text) in
-    let moved = subst (λ x. IsFirstOver p x most_classes i m) (one-formula dialect text f g a b) h in
-    let same = first_over_is_one p g most_classes i j m n moved k in
+    let moved = subst (λ x. IsFirstOver p x false most_classes i m) (one-formula dialect text f g a b) h in
+    let same = first_over_is_one p g false most_classes i j m n moved k in
     ap (λ x. refusing (refusal.TooMany x m)) same.0 ∙ ap (λ x. refusing (refusal.TooMany j x)) same.1
 one-monitoring {dialect = dialect} {text = text} (monitoring.too_many {f = f} {part = i} {count = m} a h) (monitoring.monitored {f = g} b k w) =
-    absurd (over-or-within (names_of dialect text) g i m (subst (λ x. IsFirstOver (length (names_of dialect text)) x most_classes i m) (one-formula dialect text f g a b) h) k)
+    absurd (over-or-within (names_of dialect text) g i m (subst (λ x. IsFirstOver (length (names_of dialect text)) x false most_classes i m) (one-formula dialect text f g a b) h) k)
 one-monitoring {dialect = dialect} {text = text} (monitoring.monitored a h w) (monitoring.formula_refused b) = absurd (formula-or-fault dialect text _ _ a b)
 one-monitoring {dialect = dialect} {text = text} (monitoring.monitored {f = f} a h w) (monitoring.too_many {f = g} {part = j} {count = n} b k) =
     absurd (over-or-within (names_of dialect text) g j n k (subst (λ x. AreWithin (names_of dialect text) x) (one-formula dialect text f g a b) h))

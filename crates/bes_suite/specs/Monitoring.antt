@@ -1,5 +1,5 @@
 -- What `monitor` says of a formula and an input.
-use Rattle.std.specs.Prelude.{◌≡◌, ◌≢◌, ℕ, suc, ◌<◌, ◌≤◌, ◌+◌, List, [], ◌∷◌, ◌++◌, length, codes, Some}
+use Rattle.std.specs.Prelude.{◌≡◌, ◌≢◌, ℕ, false, suc, ◌<◌, ◌≤◌, ◌+◌, List, [], ◌∷◌, ◌++◌, length, codes, Some}
 use Rattle.bes_io.specs.Lines.{Stop, at_end, HasLines}
 use Rattle.forms.specs.Word.{Word}
 use Rattle.forms.specs.Tree.{Formula}
@@ -62,7 +62,7 @@ pub record IsMonitored (names : List (List ℕ)) (f : Formula) (bytes : List ℕ
 
 -- every part of the formula, the whole coming last, is within the limit
 abbrev pub AreWithin : List (List ℕ) → Formula → Type 0
-AreWithin names f = (k : ℕ) → 0 < k → k ≤ suc (length (parts f)) → IsWithin (length names) f most_classes k
+AreWithin names f = (k : ℕ) → 0 < k → k ≤ suc (length (parts f)) → IsWithin (length names) f false most_classes k
 
 -- the text is a formula that is within the limit
 abbrev pub IsFormulaWithinLimit : Dialect → List ℕ → Type 0
@@ -73,7 +73,7 @@ pub data MonitorAnswers : Dialect → List ℕ → List ℕ → Reply → Type 0
   formula_refused : {dialect : Dialect} {text bytes : List ℕ} {fault : FormFault} →
       IsRefused dialect text fault → MonitorAnswers dialect text bytes (refusing (refusal.Formula fault))
   too_many : {dialect : Dialect} {text bytes : List ℕ} {f : Formula} {part count : ℕ} →
-      IsFormula dialect text f → IsFirstOver (length (names_of dialect text)) f most_classes part count →
+      IsFormula dialect text f → IsFirstOver (length (names_of dialect text)) f false most_classes part count →
       MonitorAnswers dialect text bytes (refusing (refusal.TooMany part count))
   monitored : {dialect : Dialect} {text bytes : List ℕ} {f : Formula} {reply : Reply} →
       IsFormula dialect text f → AreWithin (names_of dialect text) f → IsMonitored (names_of dialect text) f bytes reply →

@@ -1,5 +1,5 @@
 -- What `translate` says of a formula.
-use Rattle.std.specs.Prelude.{◌≡◌, ℕ, ◌≤◌, List, All, length}
+use Rattle.std.specs.Prelude.{◌≡◌, ℕ, false, ◌≤◌, List, All, length}
 use Rattle.forms.specs.Tree.{Formula}
 use Rattle.forms.specs.Word.{Word}
 use Rattle.forms.specs.Equivalence.{HasClassCount}
@@ -45,7 +45,7 @@ pub data TranslateAnswers : Dialect → List ℕ → Reply → Type 0 where
   formula_refused : {dialect : Dialect} {text : List ℕ} {fault : FormFault} →
       IsRefused dialect text fault → TranslateAnswers dialect text (refusing (refusal.Formula fault))
   too_many : {dialect : Dialect} {text : List ℕ} {part count : ℕ} (f : Formula) →
-      IsFormula dialect text f → IsFirstOver (length (names_of dialect text)) f most_classes part count →
+      IsFormula dialect text f → IsFirstOver (length (names_of dialect text)) f false most_classes part count →
       TranslateAnswers dialect text (refusing (refusal.TooMany part count))
   translated : {dialect : Dialect} {text output : List ℕ} (f : Formula) →
       IsFormula dialect text f → IsTranslation (names_of dialect text) f output →

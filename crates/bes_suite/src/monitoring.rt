@@ -1,5 +1,5 @@
 //! The command `monitor`.
-ghost use Rattle.std.specs.Prelude.{◌≡◌, ◌≢◌, ℕ, List, length, Option, Some, IfOk, OnOk, IfErr};
+ghost use Rattle.std.specs.Prelude.{◌≡◌, ◌≢◌, ℕ, false, List, length, Option, Some, IfOk, OnOk, IfErr};
 ghost use Rattle.forms.specs.Tree.{Formula, tree};
 ghost use Rattle.forms.specs.Proper.{IsProper};
 ghost use Rattle.bes_io.specs.Causes.{HasCause};
@@ -42,10 +42,10 @@ fn open(alloc: Global, form: &Form, names: &Names) -> Result<Opened, TranslateFa
     requires proper { IsProper (length names.now.names) (tree form.now) }
     ensures opened { IfOk result (λ opened. IsOpened opened.store opened.monitor names.now.names (tree form.now)) }
     ensures within { OnOk result (AreWithin names.now.names (tree form.now)) }
-    ensures fault { IfErr result (λ fault. IfTooMany fault (IsFirstOver (length names.now.names) (tree form.now) most_classes)) }
+    ensures fault { IfErr result (λ fault. IfTooMany fault (IsFirstOver (length names.now.names) (tree form.now) false most_classes)) }
 {
     let mut store = Store::new(alloc, names.len())?;
-    let made = translate(alloc, &mut store, form, MOST_CLASSES)?;
+    let made = translate(alloc, &mut store, form, false, MOST_CLASSES)?;
     let monitor = Monitor::new(alloc, &store, made.whole)?;
     Ok(Opened { store, monitor })
 }

@@ -1,5 +1,5 @@
 //! The command `translate`.
-ghost use Rattle.std.specs.Prelude.{◌≡◌, ℕ, List, length, Option, MatchResult};
+ghost use Rattle.std.specs.Prelude.{◌≡◌, ℕ, false, List, length, Option, MatchResult};
 ghost use Rattle.forms.specs.Tree.{tree};
 ghost use Rattle.forms.specs.Proper.{IsProper};
 ghost use Rattle.translate.specs.Counting.{IfTooMany, IsFirstOver};
@@ -28,10 +28,10 @@ use translate::{TranslateFault, translate};
 fn translation_text(alloc: Global, form: &Form, names: &Names) -> Result<Text, TranslateFault>
     requires proper { IsProper (length names.now.names) (tree form.now) }
     ensures { MatchResult result (λ text. IsTranslation names.now.names (tree form.now) text)
-        (λ fault. IfTooMany fault (IsFirstOver (length names.now.names) (tree form.now) most_classes)) }
+        (λ fault. IfTooMany fault (IsFirstOver (length names.now.names) (tree form.now) false most_classes)) }
 {
     let mut store = Store::new(alloc, names.len())?;
-    let made = translate(alloc, &mut store, form, MOST_CLASSES)?;
+    let made = translate(alloc, &mut store, form, false, MOST_CLASSES)?;
     let table = print_table(alloc, &store, &made.whole)?;
     let words = telling_words(alloc, &mut store, &made.whole)?;
     let text = whole_text(

@@ -219,7 +219,7 @@ fn each_operator_has_its_class_count_and_its_words(rt: HostRuntime) -> Result<()
     for (operator, count, answers) in OPERATORS {
         let mut store = Store::new(alloc, 2)?;
         let form = later(alloc, formula(alloc, operator)?)?;
-        let made = translate(alloc, &mut store, &form, 1024)?;
+        let made = translate(alloc, &mut store, &form, false, 1024)?;
         assert_eq!(rt; last_but_one(&made.counts), Some(count), "{operator:?}");
         let agrees = agrees(&store, &made.whole, &LATER_WORDS, &answers)?;
         assert!(rt; agrees, "{operator:?}");
@@ -231,8 +231,19 @@ fn each_operator_has_its_class_count_and_its_words(rt: HostRuntime) -> Result<()
 fn the_empty_word_is_no_trace(rt: HostRuntime) -> Result<(), Fail> {
     let mut store = Store::new(rt.alloc(), 2)?;
     let form = formula(rt.alloc(), Operator::Not)?;
-    let made = translate(rt.alloc(), &mut store, &form, 1024)?;
+    let made = translate(rt.alloc(), &mut store, &form, false, 1024)?;
     let answers = [false, true, true, false, false, false, true, false];
+    assert_eq!(rt; made.whole.size(), 3);
+    assert!(rt; agrees(&store, &made.whole, &WORDS, &answers)?);
+    Ok(())
+}
+
+#[test]
+fn the_empty_word_is_a_trace_where_it_is_admitted(rt: HostRuntime) -> Result<(), Fail> {
+    let mut store = Store::new(rt.alloc(), 2)?;
+    let form = formula(rt.alloc(), Operator::Not)?;
+    let made = translate(rt.alloc(), &mut store, &form, true, 1024)?;
+    let answers = [true, true, true, false, false, false, true, false];
     assert_eq!(rt; made.whole.size(), 3);
     assert!(rt; agrees(&store, &made.whole, &WORDS, &answers)?);
     Ok(())
@@ -331,7 +342,7 @@ fn formulas_are_counted_part_by_part(rt: HostRuntime) -> Result<(), Fail> {
         let mut names = Names::new(alloc)?;
         let form = read_form(alloc, dialect, text.as_bytes(), &mut names)?;
         let mut store = Store::new(alloc, names.len())?;
-        let outcome = translate(alloc, &mut store, &form, limit);
+        let outcome = translate(alloc, &mut store, &form, false, limit);
         assert!(rt; is_wanted(&outcome, wanted), "{text}");
     }
     Ok(())

@@ -1,12 +1,12 @@
 -- The least automata of operators, over those of their operands in earlier stores.
 use mathlib.Core.Path.{fun_ext}
-use Rattle.std.proofs.Common.{◌≡◌, ℕ, ◌<◌, Bool, true, false, List, [], ◌∷◌, refl, sym, ◌∙◌, ap, ap₂, subst, not, ◌&&◌}
+use Rattle.std.proofs.Common.{◌≡◌, ℕ, ◌<◌, Bool, true, false, List, [], ◌∷◌, refl, sym, ◌∙◌, ap, ap₂, subst, not}
 use Rattle.std.specs.Prelude.{◌==◌, All}
 use Rattle.std.proofs.lemmas.List.Elements.{All-append, All-cons, All-nil}
-use Rattle.forms.specs.Word.{Word, Claim, IsOver, is_empty}
+use Rattle.forms.specs.Word.{Word, Claim, IsOver}
 use Rattle.forms.specs.Paths.{reaches}
 use Rattle.forms.specs.Tree.{Formula, Program, tree}
-use Rattle.forms.specs.Satisfaction.{sat, goes, meets}
+use Rattle.forms.specs.Satisfaction.{sat, goes}
 use Rattle.forms.specs.Equivalence.{HasClassCount}
 use Rattle.forms.proofs.Further.{not-reaches}
 use Rattle.diagrams.specs.Eval.{Diagrams}
@@ -24,7 +24,8 @@ use Rattle.translate.specs.declared.operation.Modal.{Modal}
 use Rattle.translate.specs.declared.operation.Unary.TheVariants.{Not, Next, WeakNext, Eventually, Always}
 use Rattle.translate.specs.declared.operation.Binary.TheVariants.{And, Or, Implies, Iff, Until, Release}
 use Rattle.translate.specs.declared.operation.Modal.TheVariants.{Diamond, BoxAll}
-use Rattle.translate.specs.Exact.{accepted, IsLeastOf, IsLeastMeant}
+use Rattle.translate.specs.Exact.{accepted, admitted, IsLeastOf, IsLeastMeant}
+use Rattle.translate.specs.Counting.{whole_claim}
 use Rattle.translate.specs.Operation.{constant_form, unary_form, unary_claim, binary_form, binary_claim, modal_form, modal_claim, box_claim}
 use Rattle.translate.specs.PathTests.{IsTest, IsAppended}
 
@@ -116,25 +117,40 @@ class_count s t f p e h =
     let l = least_for s t f p e h in
     size_is_class_count p (moves_of s t) f l.least l.decides
 
--- the automaton is the least one of a formula's traces, the only one with its numbering, and as large as they have classes
-pub record IsWholeOf (p : ℕ) (m : Moves) (f : Formula) : Type 0 where
-  pub least : IsLeastFor p m (λ w. meets p f w)
-  pub only : IsOnlyFor p m (λ w. meets p f w)
-  pub size : HasClassCount p (λ w. meets p f w) m.size
+-- a least automaton is that of what it accepts
+pub least_own : (s : Diagrams) (t : Table) (f : Claim) → IsLeastOf s t f → IsLeastOf s t (accepted s t)
+least_own s t f h = record { fits = h.fits; marks = h.marks; same = λ w. refl; least = h.least; numbered = h.numbered }
 
--- so is the least automaton of the words, but for the empty one, that the formula's least automaton accepts in an earlier store
-pub whole_meant : (o s r : Diagrams) (a t : Table) (f : Formula) → Keeps o s → Keeps s r → IsLeastMeant s a f → IsLeastOf r t (λ w. not (is_empty w) && accepted s a w)
-    → IsWholeOf o.props (moves_of r t) f
-whole_meant o s r a t f k j x h =
+-- what the whole says is the formula's claim, as the empty word is admitted
+whole_admitted : (p : ℕ) (f : Formula) (empty : Bool) → admitted empty (said p f) ≡ whole_claim p f empty
+whole_admitted p f false = refl
+whole_admitted p f true = refl
+
+-- the automaton is the least one of the claim, the only one with its numbering, and as large as the claim has classes
+pub record IsWholeOf (p : ℕ) (m : Moves) (f : Claim) : Type 0 where
+  pub least : IsLeastFor p m f
+  pub only : IsOnlyFor p m f
+  pub size : HasClassCount p f m.size
+
+-- the least automaton of what a formula's automaton accepts, as the empty word is admitted, is that of the whole
+pub whole_now : (o s r : Diagrams) (a t : Table) (f : Formula) (empty : Bool) → Keeps o s → IsLeastMeant s a f → IsLeastOf r t (admitted empty (accepted s a))
+    → IsLeastOf r t (whole_claim o.props f empty)
+whole_now o s r a t f empty k x h =
+    subst (λ p. IsLeastOf r t (whole_claim p f empty)) k.extends.props
+    (least_as r t (admitted empty (accepted s a)) (whole_claim s.props f empty)
+    (ap (admitted empty) (accepted-least s a (said s.props f) x) ∙ whole_admitted s.props f empty) h)
+
+-- and the only one with its numbering, and as large as the whole has classes
+pub whole_meant : (o s r : Diagrams) (a t : Table) (f : Formula) (empty : Bool) → Keeps o s → Keeps s r → IsLeastMeant s a f → IsLeastOf r t (admitted empty (accepted s a))
+    → IsWholeOf o.props (moves_of r t) (whole_claim o.props f empty)
+whole_meant o s r a t f empty k j x h =
     let p = o.props in
     let e : r.props ≡ p = j.extends.props ∙ k.extends.props in
-    let traces : (λ w. not (is_empty w) && accepted s a w) ≡ (λ w. meets p f w) =
-    ap (λ c. λ w. not (is_empty w) && c w) (accepted-least s a (said s.props f) x) ∙ ap (λ q. λ w. meets q f w) k.extends.props in
-    let whole = least_as r t (λ w. not (is_empty w) && accepted s a w) (λ w. meets p f w) traces h in
-    let least = least_for r t (λ w. meets p f w) p e whole in record {
+    let whole = whole_now o s r a t f empty k x h in
+    let least = least_for r t (whole_claim p f empty) p e whole in record {
       least = least;
-      only = least_is_only p (moves_of r t) (λ w. meets p f w) least;
-      size = class_count r t (λ w. meets p f w) p e whole;
+      only = least_is_only p (moves_of r t) (whole_claim p f empty) least;
+      size = class_count r t (whole_claim p f empty) p e whole;
     }
 
 -- a least automaton is one of its formula

@@ -1,6 +1,6 @@
 -- Least automata of what is true or false of words.
-use Rattle.std.specs.Prelude.{◌≡◌, ℕ, ◌<◌}
-use Rattle.forms.specs.Word.{Word, Claim}
+use Rattle.std.specs.Prelude.{◌≡◌, ℕ, ◌<◌, Bool, true, false, not, ◌&&◌}
+use Rattle.forms.specs.Word.{Word, Claim, is_empty}
 use Rattle.forms.specs.Tree.{Formula}
 use Rattle.forms.specs.Satisfaction.{sat}
 use Rattle.diagrams.specs.Eval.{Diagrams}
@@ -25,3 +25,8 @@ pub record IsLeastOf (s : Diagrams) (t : Table) (f : Claim) : Type 0 where
 -- the least automaton of a formula, the empty word included
 abbrev pub IsLeastMeant : Diagrams → Table → Formula → Type 0
 IsLeastMeant s t f = IsLeastOf s t (λ w. sat s.props f w)
+
+-- the claim on words that have a letter, and on the empty one only where it is admitted
+abbrev pub admitted : Bool → Claim → Claim
+admitted true f = f
+admitted false f = λ w. not (is_empty w) && f w

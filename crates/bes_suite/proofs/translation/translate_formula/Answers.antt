@@ -1,4 +1,4 @@
-use Rattle.std.proofs.Common.{◌<◌, refl, sym, subst, length}
+use Rattle.std.proofs.Common.{◌<◌, false, refl, sym, subst, length}
 use Rattle.forms.specs.Tree.{tree}
 use Rattle.bes_suite.specs.declared.endings.Ending.TheVariants.{Positive}
 use Rattle.translate.specs.Counting.{IfTooMany, IsFirstOver}
@@ -54,7 +54,7 @@ returns-in-Ok-translation_text-clause-silent g c none =
 pub returns-clause-performs : goal.returns-clause-performs
 returns-clause-performs g c contents failed left reads =
     let f = tree c.in-Ok.read.0 in
-    let fault = subst (λ names. IfTooMany c.in-Err-translation_text.fault (IsFirstOver (length names) f most_classes)) c.in-Ok.ensures.names c.in-Err-translation_text.ensures in
+    let fault = subst (λ names. IfTooMany c.in-Err-translation_text.fault (IsFirstOver (length names) f false most_classes)) c.in-Ok.ensures.names c.in-Err-translation_text.ensures in
     subst (Performs needs_nothing (λ files rest. TranslateAnswers c.args.dialect c.args.text.now) ⊥ _ _) (sym c.limit_ending.ensures)
     (limit-ends c.args.dialect c.args.text.now _ _ f c.in-Ok.ensures.formula c.in-Err-translation_text.fault fault
     (record { reads = refl; puts = refl; failed = refl }) refl)
