@@ -32,7 +32,7 @@ serving = record { parts = record { first = Agent; inputs = 1; outputs = 1 }; go
 never-done : (h : Word) → ¬ IsDone serving h
 never-done h d = false≢true d.1
 
-input-whole : (h : Word) (a : ℕ) → ¬ IsViolated serving.assumed h → grants a ≡ true → ¬ IsViolated serving.assumed (one_more h a)
+pub input-whole : (h : Word) (a : ℕ) → ¬ IsViolated serving.assumed h → grants a ≡ true → ¬ IsViolated serving.assumed (one_more h a)
 input-whole h a whole g v =
     elim (violated-cases input_now h a v) [
       | inl x ↦ whole x
@@ -62,10 +62,10 @@ kept (suc n) h whole (inr f) =
     let a = letter_of serving.parts 1 w.0 (omega arith) w.1 in
     kept n (one_more h a.0) (input-whole h a.0 whole (has-input w.0 a.0 a.1)) (w.2 a.0 (record { letter = a.1.letter; decision = refl; output = a.1.output }) tt)
 
-legal : (h : Word) (a : ℕ) → ¬ IsViolated serving.assumed h → grants a ≡ true → IsLegalRound serving h a
+pub legal : (h : Word) (a : ℕ) → ¬ IsViolated serving.assumed h → grants a ≡ true → IsLegalRound serving h a
 legal h a whole g n = kept n (one_more h a) (input-whole h a whole g)
 
-illegal : (h : Word) (a : ℕ) → grants a ≡ false → ¬ IsLegalRound serving h a
+pub illegal : (h : Word) (a : ℕ) → grants a ≡ false → ¬ IsLegalRound serving h a
 illegal h a g l = l 0 (violated-now input_now h a (ap grants (last-push 1 h a) ∙ g))
 
 -- the arena: the duty is kept, or broken

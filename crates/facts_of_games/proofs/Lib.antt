@@ -1,10 +1,12 @@
 pub mod ArenaByHand
 pub mod Stuck
 pub mod OpenFacts
+mod OpenPlanFacts
 mod PrintedFacts
 mod PlayedFacts
 pub mod SharedFacts
-mod SharedPlanFacts
+pub mod SharedPlanFacts
 pub mod HeldFacts
 mod HeldPlanFacts
 mod TextFacts
+mod RefusingFacts

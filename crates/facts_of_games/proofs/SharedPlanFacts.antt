@@ -51,7 +51,7 @@ abbrev board : Board guarded.parts
 board = locations guarded.parts true rooms
 
 -- each input and output make a round
-round : (x y : ℕ) → x < 2 → y < 2 → (a : ℕ) × IsLetter guarded.parts x y a × IsRound guarded.parts x y a
+pub round : (x y : ℕ) → x < 2 → y < 2 → (a : ℕ) × IsLetter guarded.parts x y a × IsRound guarded.parts x y a
 round x y h k =
     let c = letter_of guarded.parts x y h k in
     (c.0, c.1, record { letter = c.1.letter; decision = c.1.input; output = c.1.output })
@@ -81,14 +81,14 @@ lost-far (suc n) x h (inl w) = lost-decision (suc n) x h w
 lost-far (suc n) x h (inr (c, y, o, (a, r, l, w))) = lost-reaches n w
 
 -- the letters of a decision and an output
-letters : (x y : ℕ) (P : ℕ → Type 0) → (a : ℕ) → IsRound guarded.parts x y a → (x ≡ 0 → y ≡ 0 → P 0) → (x ≡ 0 → y ≡ 1 → P 1) → (x ≡ 1 → y ≡ 0 → P 2) → (x ≡ 1 → y ≡ 1 → P 3) → P a
+pub letters : (x y : ℕ) (P : ℕ → Type 0) → (a : ℕ) → IsRound guarded.parts x y a → (x ≡ 0 → y ≡ 0 → P 0) → (x ≡ 0 → y ≡ 1 → P 1) → (x ≡ 1 → y ≡ 0 → P 2) → (x ≡ 1 → y ≡ 1 → P 3) → P a
 letters x y P zero r f g h k = f (sym r.decision) (sym r.output)
 letters x y P (suc zero) r f g h k = g (sym r.decision) (sym r.output)
 letters x y P (suc (suc zero)) r f g h k = h (sym r.decision) (sym r.output)
 letters x y P (suc (suc (suc zero))) r f g h k = k (sym r.decision) (sym r.output)
 letters x y P (suc (suc (suc (suc a)))) r f g h k = let l = r.letter in absurd (omega (arith, l))
 
-round_of : (a : ℕ) → a < 4 → (x y : ℕ) → a / 2 ≡ x → a % 2 ≡ y → IsRound guarded.parts x y a
+pub round_of : (a : ℕ) → a < 4 → (x y : ℕ) → a / 2 ≡ x → a % 2 ≡ y → IsRound guarded.parts x y a
 round_of a l x y e f = record { letter = l; decision = e; output = f }
 
 -- no number wins at the start, nor from the input that doesn't ask
