@@ -10,3 +10,4 @@ pub mod HeldFacts
 mod HeldPlanFacts
 mod TextFacts
 mod RefusingFacts
+mod TrueDutyFacts
