@@ -7,7 +7,7 @@ use Rattle.forms.specs.declared.partition.Partition.{Partition}
 use Rattle.game.specs.Winning.{WinsWithin}
 use Rattle.game.specs.Marks.{Evades}
 use Rattle.game.specs.Arena.{Locations, locations}
-use Rattle.game.specs.Values.{IsLeastOrNone}
+use Rattle.game.specs.Numbers.{IsLeastOrNone}
 use Rattle.layers.specs.Ranked.{AreRanks, GoesByInput}
 use Rattle.attractor.proofs.SettlingLemmas.{option_cases}
 use Rattle.layers.proofs.HopeLemmas.{rank_in}

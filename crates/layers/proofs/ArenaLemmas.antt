@@ -11,7 +11,7 @@ use Rattle.forms.specs.declared.partition.Mover.{Mover}
 use Rattle.forms.specs.declared.partition.Mover.TheVariants.{Agent, Environment}
 use Rattle.game.specs.Winning.{WinsWithin, FailsDutyWithin}
 use Rattle.game.specs.Arena.{locations}
-use Rattle.game.specs.Values.{IsLeastOrNone}
+use Rattle.game.specs.Numbers.{IsLeastOrNone}
 use Rattle.layers.specs.Ranked.{AreRanks}
 use Rattle.attractor.specs.Minimax.{IsSolved}
 use Rattle.layers.specs.Layers.{is_output, IsRowTree}

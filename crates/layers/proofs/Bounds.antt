@@ -4,7 +4,7 @@ use Rattle.game.specs.Board.{IsLeastNumber}
 use Rattle.forms.specs.declared.partition.Partition.{Partition}
 use Rattle.game.specs.Winning.{WinsWithin}
 use Rattle.game.specs.Arena.{Locations, locations}
-use Rattle.game.specs.Values.{IsLeastOrNone}
+use Rattle.game.specs.Numbers.{IsLeastOrNone}
 use Rattle.layers.specs.Ranked.{AreRanks, IsPlayableArena}
 use Rattle.layers.proofs.Layers.{wins_lasts}
 use Rattle.layers.proofs.Search.{some_or_none, found, found_passes}

@@ -8,7 +8,7 @@ use Rattle.forms.specs.declared.partition.Mover.TheVariants.{Agent, Environment}
 use Rattle.game.specs.Winning.{IsWinnable, ReachesWithin, CanMeetWithin}
 use Rattle.game.specs.Arena.{Locations, locations, IsDecisionThere}
 use Rattle.attractor.specs.Minimax.{IsWithin}
-use Rattle.game.specs.Values.{IsLeastOrNone}
+use Rattle.game.specs.Numbers.{IsLeastOrNone}
 use Rattle.layers.specs.Ranked.{AreDistances, IsPlayableArena, GoesByInput}
 use Rattle.layers.specs.Distances.{AreWon, AreHoped}
 use Rattle.layers.proofs.Least.{least_from}

@@ -7,7 +7,7 @@ use Rattle.game.specs.Winning.{WinsWithin, ReachesWithin, CanMeetWithin, FailsDu
 use Rattle.game.specs.Following.{RefutesWithin}
 use Rattle.game.specs.Histories.{Aims, histories, is_given}
 use Rattle.game.specs.Arena.{Locations, locations, location_from, LeadsTo, IsArenaOf}
-use Rattle.game.specs.Values.{IsLeastOrNone}
+use Rattle.game.specs.Numbers.{IsLeastOrNone}
 use Rattle.game.proofs.ArenaLemmas.{arena_simulates}
 use Rattle.game.proofs.Simulation.{turned, wins, reaches, can_meet}
 use Rattle.game.proofs.SimulatedPlay.{refutes}

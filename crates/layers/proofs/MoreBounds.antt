@@ -7,7 +7,7 @@ use Rattle.forms.specs.declared.partition.Partition.{Partition}
 use Rattle.game.specs.Winning.{WinsWithin, DecisionWinsWithin, IsWinnable, WinsOrLeads, ReachesWithin, DecisionReachesWithin, FailsDutyWithin}
 use Rattle.game.specs.Arena.{Locations, locations, IsDecisionThere}
 use Rattle.attractor.specs.Minimax.{IsWithin}
-use Rattle.game.specs.Values.{IsLeastOrNone}
+use Rattle.game.specs.Numbers.{IsLeastOrNone}
 use Rattle.layers.specs.Ranked.{AreRanks, AreDistances, IsPlayableArena, GoesByInput}
 use Rattle.layers.specs.Distances.{AreWon}
 use Rattle.layers.specs.Decisions.{first_some}

@@ -5,7 +5,7 @@ use Rattle.diagrams.specs.Eval.{Diagrams}
 use Rattle.forms.specs.declared.partition.Partition.{Partition}
 use Rattle.game.specs.Winning.{WinsWithin}
 use Rattle.game.specs.Arena.{locations}
-use Rattle.game.specs.Values.{IsLeastOrNone}
+use Rattle.game.specs.Numbers.{IsLeastOrNone}
 use Rattle.layers.specs.Ranked.{AreRanks}
 use Rattle.layers.specs.ArenaRows.{locations_of}
 use Rattle.attractor.specs.Graph.{number_at}

@@ -11,7 +11,7 @@ use Rattle.forms.specs.declared.partition.Partition.{Partition}
 use Rattle.game.specs.Winning.{WinsWithin, FailsDutyWithin}
 use Rattle.game.specs.Arena.{Locations, locations}
 use Rattle.attractor.specs.Minimax.{IsWithin, later, minimax, IsSolved}
-use Rattle.game.specs.Values.{IsLeastOrNone}
+use Rattle.game.specs.Numbers.{IsLeastOrNone}
 use Rattle.layers.specs.Ranked.{AreRanks, GoesByInput}
 use Rattle.layers.specs.Settles.{Settles}
 use Rattle.layers.specs.Layers.{is_output, IsRowTree}

@@ -6,7 +6,7 @@ use Rattle.game.specs.Board.{width, IsLeastNumber}
 use Rattle.game.specs.Winning.{WinsWithin, DecisionWinsWithin, IsWinnable, ReachesWithin, DecisionReachesWithin}
 use Rattle.game.specs.Histories.{Aims, histories}
 use Rattle.game.specs.Arena.{Locations, locations, location_from, LeadsTo, IsDecisionThere}
-use Rattle.game.specs.Values.{IsLeastOrNone}
+use Rattle.game.specs.Numbers.{IsLeastOrNone}
 
 -- each history that leads to a location has the location's rank
 abbrev pub AreHistoryRanks : Aims → Locations → (ℕ → Option ℕ) → Type 0

@@ -6,7 +6,7 @@ use Rattle.forms.specs.declared.partition.Mover.TheVariants.{Agent, Environment}
 use Rattle.game.specs.Winning.{WinsWithin, ReachesWithin, FailsDutyWithin}
 use Rattle.game.specs.Arena.{Locations, locations}
 use Rattle.game.specs.Playable.{IsPlayable}
-use Rattle.game.specs.Values.{IsLeastOrNone}
+use Rattle.game.specs.Numbers.{IsLeastOrNone}
 
 -- the numbers are the least within which the agent wins
 abbrev pub AreRanks : (s : Partition) → Bool → Locations → (ℕ → Option ℕ) → Type 0

@@ -3,7 +3,7 @@ use Rattle.std.proofs.Common.{◌≡◌, ◌<◌, ◌≤◌, ◌^◌, ◌+◌, �
 use Rattle.std.proofs.lemmas.Bool.{cases_lt}
 use Rattle.game.specs.Board.{Agent, Environment, Partition, input_of, output_of, IsRound, IsLetter}
 use Rattle.game.specs.Winning.{WinsWithin}
-use Rattle.game.specs.Values.{IsLeastOrNone}
+use Rattle.game.specs.Numbers.{IsLeastOrNone}
 use Rattle.legality.specs.Violation.{watched, AreViolationRanks}
 use Rattle.automata.specs.Moves.{Moves, IsClosed}
 use Rattle.game.proofs.WinningLemmas.{wins-more}

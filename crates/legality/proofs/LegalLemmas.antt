@@ -10,7 +10,7 @@ use Rattle.automata.proofs.Lasts.{mark_after-lasts, fits_lasts}
 use Rattle.products.specs.Watch.{Tells, IsWatching}
 use Rattle.game.specs.Board.{Mover, Agent, Environment, Partition, width, IsLeastNumber}
 use Rattle.game.specs.Winning.{WinsWithin}
-use Rattle.game.specs.Values.{IsLeastOrNone}
+use Rattle.game.specs.Numbers.{IsLeastOrNone}
 use Rattle.game.specs.Histories.{IsKeepable, IsLegalRound, violation}
 use Rattle.game.specs.Same.{AgreeWhere}
 use Rattle.game.proofs.Simulation.{turned, wins}

@@ -10,7 +10,7 @@ use Rattle.attractor.specs.Graph.{number_at}
 use Rattle.attractor.specs.Rows.{IsAttraction}
 use Rattle.game.specs.Board.{Mover, Agent, Environment, Partition, width, IsChoice}
 use Rattle.game.specs.Winning.{WinsWithin}
-use Rattle.game.specs.Values.{IsLeastOrNone}
+use Rattle.game.specs.Numbers.{IsLeastOrNone}
 use Rattle.game.specs.Arena.{Locations, IsDecisionThere, locations}
 use Rattle.game.specs.Simulates.{Simulates}
 use Rattle.game.proofs.Simulation.{wins, turned}

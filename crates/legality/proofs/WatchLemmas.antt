@@ -6,7 +6,7 @@ use Rattle.automata.specs.Moves.{Moves, location_after, accepts, IsClosed}
 use Rattle.automata.proofs.Words.{over-push, location_after-append, location_after-within}
 use Rattle.game.specs.Board.{Mover, Agent, Environment, Partition, width}
 use Rattle.game.specs.Winning.{WinsWithin}
-use Rattle.game.specs.Values.{IsLeastOrNone}
+use Rattle.game.specs.Numbers.{IsLeastOrNone}
 use Rattle.game.specs.Histories.{Aims, IsViolated, IsKeepable, IsLegalRound, IsLegalHistory, violation, one_more}
 use Rattle.game.specs.Simulates.{Simulates}
 use Rattle.products.specs.Watch.{Tells, IsWatching}

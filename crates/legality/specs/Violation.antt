@@ -10,7 +10,7 @@ use Rattle.attractor.specs.Rows.{is_first_at}
 use Rattle.products.specs.Watch.{Tells}
 use Rattle.game.specs.Board.{Partition, Agent, Environment, Board, width, input_of, IsChoice}
 use Rattle.game.specs.Winning.{WinsWithin}
-use Rattle.game.specs.Values.{IsLeastOrNone}
+use Rattle.game.specs.Numbers.{IsLeastOrNone}
 use Rattle.game.specs.Histories.{IsViolated}
 
 -- the mark after a word is v where it violates the claim, and else 0
