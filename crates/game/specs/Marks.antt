@@ -1,5 +1,5 @@
 -- Marks of places and of decisions, the printed moves and answers.
-use Rattle.std.specs.Prelude.{◌≡◌, ℕ, zero, suc, true, false}
+use Rattle.std.specs.Prelude.{◌≡◌, ◌<◌, ℕ, zero, suc, true, false}
 use Rattle.game.specs.Board.{Partition, Agent, Environment, Board, SomeLeads, IsOutput, IsLetter, IsLeastNumber}
 use Rattle.game.specs.Winning.{WinsWithin, MoveWinsWithin, DecisionWinsWithin, ReachesWithin, DecisionReachesWithin, FailsDutyWithin, DecisionFailsDutyWithin, KeepsDuty}
 
@@ -69,3 +69,10 @@ IsAnswer {s = s} b h y x = elim s.first [
   | Agent ↦ IsLeastNumber (λ z. Evades b h z y) x
   | Environment ↦ IsLeastNumber (λ z. (y : ℕ) → IsOutput s y → Evades b h z y) x
 ]
+
+-- the number of the mark, where it has one, is below n
+abbrev pub HasNumberBelow : ℕ → Mark → Type 0
+HasNumberBelow n (Win k) = k < n
+HasNumberBelow n (Pending k) = k < n
+HasNumberBelow n (LostIn k) = k < n
+HasNumberBelow n m = Unit {0}

@@ -5,3 +5,4 @@ pub mod Possible
 pub mod HistoriesGoOn
 pub mod ArenaGoesOn
 pub mod ValueLemmas
+pub mod NumberBounds

@@ -11,13 +11,15 @@ use Rattle.game.specs.Marks.{Mark, Goal, Win, Pending, Lost, Held, LostIn, HasMa
 use Rattle.game.specs.Histories.{Aims, histories, IsHistory, IsKeepable, IsDone, IsRunning}
 use Rattle.printed_strategy.specs.Strategy.{Strategy, Choice, location_after, choice_from, move_at, answers_from, answers_at}
 use Rattle.printed_strategy.specs.Printed.{IsPrintedFor, IsChoiceFor, AreAnswersFor, AreAnswers, IsVerdict}
-use Rattle.printed_strategy.specs.Headline.{IsRefuted, Promises, PromisesFrom, KeepsPromises}
+use Rattle.printed_strategy.specs.Headline.{Follows, IsRefuted, Promises, PromisesFrom, KeepsPromises}
 use Rattle.game.specs.Playing.{GoesOn, Keeps, KeepsFrom}
 use Rattle.printed_strategy.proofs.LocationLemmas.{place, place-some}
+use Rattle.game.proofs.HistoryLemmas.{live_unmet}
 use Rattle.game.proofs.Hope.{winning_is_meeting, winning_is_meeting_from, hope_is_meeting, hope_is_meeting_from}
 use Rattle.play_laws.proofs.MarkedPlay.{keeps-mark, keeps-mark_from, forces-won}
 use Rattle.play_laws.proofs.Possible.{near-can, near-can_from, refutes-never}
 use Rattle.play_laws.proofs.HistoriesGoOn.{decision-choice}
+use Rattle.printed_strategy.proofs.NumberLemmas.{few_numbers}
 use Rattle.printed_strategy.proofs.Located.{Located, located-right, histories_go_on, moves_go_by_marks}
 
 append-empty : (h : Word) → h ≡ h ++ []
@@ -151,4 +153,10 @@ module _ (s : Aims) (t : Strategy) (p : IsPrintedFor s t) (keep : IsKeepable s [
         let w = verdict-least t.verdict n e p.verdict in
         (w, forces-won (histories s) (Located s t) (move_at t) on_here (moves_go_by_marks s t p) n [] located-start w.holds);
     unrealisable = λ e. refuted [] located-start (verdict-never t.verdict e p.verdict);
+    numbers = few_numbers s t p keep located-start;
   }
+
+-- a history that follows the strategy and doesn't meet the goal is running
+pub following-promised : (s : Aims) (t : Strategy) → KeepsPromises s t → (h : Word) → IsHistory s h → Follows s t h → ¬ IsDone s h
+    → (at : ℕ) × (location_after t h ≡ Some at) × Promises (histories s) (move_at t) (answers_at t) h (t.mark at)
+following-promised s t keeps h o (live, plays) unmet = keeps.marks h o (live_unmet s h live unmet)

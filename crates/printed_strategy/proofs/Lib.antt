@@ -7,3 +7,5 @@ pub mod OnePrinted
 pub mod CubeFacts
 pub mod FieldLemmas
 pub mod OneText
+pub mod NumberLemmas
+pub mod NameLemmas

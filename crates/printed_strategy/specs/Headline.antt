@@ -1,14 +1,14 @@
 -- What a printed strategy gives: it wins within the printed least number of rounds where any strategy can force the goal,
 -- else keeps a legal continuation that meets it wherever one exists, and where the goal can't be forced the printed
 -- answers refute every number of rounds.
-use Rattle.std.specs.Prelude.{◌≡◌, ℕ, [], ◌∷◌, ◌++◌, Some, None}
+use Rattle.std.specs.Prelude.{◌≡◌, ◌<◌, ℕ, suc, false, [], ◌∷◌, ◌++◌, Some, None}
 use Rattle.forms.specs.Word.{Word}
-use Rattle.game.specs.Board.{Partition, Board, IsLeastNumber, decision_of, output_of}
+use Rattle.game.specs.Board.{Partition, Board, IsChoice, IsLeastNumber, decision_of, output_of}
 use Rattle.game.specs.Winning.{WinsWithin, DecisionWinsWithin, IsWinnable, CanMeetWithin, CanMeetFrom, FailsDutyWithin}
 use Rattle.game.specs.Following.{Moves, Answers, ForcesWithin, ForcesFrom, LeavesOpenWithin, LeavesOpenFrom, HoldsDutyWithin, HoldsDutyFrom, RefutesWithin}
-use Rattle.game.specs.Marks.{Mark, Goal, Win, Pending, Lost, Held, LostIn}
+use Rattle.game.specs.Marks.{Mark, Goal, Win, Pending, Lost, Held, LostIn, HasNumberBelow}
 use Rattle.game.specs.Histories.{Aims, histories, IsHistory, IsRunning, IsLive}
-use Rattle.printed_strategy.specs.Strategy.{Strategy, Choice, location_after, choice_from, move_at, answers_at}
+use Rattle.printed_strategy.specs.Strategy.{Strategy, Choice, is_goal, location_after, choice_from, move_at, answers_at}
 
 -- no number of rounds wins, and the answers refute each
 abbrev pub IsRefuted : {s : Partition} (b : Board s) → Answers b → b.Place → Type 0
@@ -42,8 +42,16 @@ PlaysMoves s t h = (u v : Word) (a : ℕ) → h ≡ u ++ a ∷ v
 abbrev pub Follows : Aims → Strategy → Word → Type 0
 Follows s t h = IsLive s h × PlaysMoves s t h
 
+-- Numbers are few: that of a location and that of the verdict are below the number of locations, and that of a decision is at
+-- most it.
+pub record HasFewNumbers (t : Strategy) : Type 0 where
+  pub locations : (at : ℕ) → at < t.size → HasNumberBelow t.size (t.mark at)
+  pub decisions : (at x : ℕ) (c : Choice) → at < t.size → is_goal (t.mark at) ≡ false → IsChoice t.parts x → t.choice at x ≡ Some c
+      → HasNumberBelow (suc t.size) c.mark
+  pub verdict : (n : ℕ) → t.verdict ≡ Some n → n < t.size
+
 -- The headline: at every running history, so at each that follows the strategy and doesn't meet the goal, and from each
--- decision at it; and at the start.
+-- decision at it; and at the start. Its numbers are few.
 pub record KeepsPromises (s : Aims) (t : Strategy) : Type 0 where
   pub marks : (h : Word) → IsHistory s h → IsRunning s h
       → (at : ℕ) × (location_after t h ≡ Some at) × Promises (histories s) (move_at t) (answers_at t) h (t.mark at)
@@ -51,3 +59,4 @@ pub record KeepsPromises (s : Aims) (t : Strategy) : Type 0 where
       → (c : Choice) × (choice_from t (location_after t h) x ≡ Some c) × PromisesFrom (histories s) (move_at t) h x c.mark
   pub realisable : (n : ℕ) → t.verdict ≡ Some n → IsLeastNumber (λ k. WinsWithin (histories s) k []) n × ForcesWithin (histories s) (move_at t) n []
   pub unrealisable : t.verdict ≡ None → IsRefuted (histories s) (answers_at t) []
+  pub numbers : HasFewNumbers t

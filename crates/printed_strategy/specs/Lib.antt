@@ -4,3 +4,4 @@ pub mod Planned
 pub mod CubeLines
 pub mod StrategyText
 pub mod Headline
+pub mod PrintedLaws
