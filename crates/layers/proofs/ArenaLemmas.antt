@@ -1,5 +1,5 @@
 -- What attract gives over the rows of an arena: ranks for the agent, losses for the environment.
-use Rattle.std.proofs.Common.{◌≡◌, ℕ, ◌<◌, ◌^◌, refl, sym, ◌∙◌, ap, subst, arith, Bool, true, false, if◌then◌else◌, List, length, Option, Some}
+use Rattle.std.proofs.Common.{◌≡◌, ℕ, ◌<◌, ◌≤◌, ◌^◌, ◌+◌, refl, sym, ◌∙◌, ap, subst, arith, Bool, true, false, if◌then◌else◌, List, length, Option, Some}
 use Rattle.std.specs.Prelude.{nat_lt, not}
 use Rattle.diagrams.specs.declared.top.Id.{Id}
 use Rattle.diagrams.specs.Tree.{value_at, Assignment}
@@ -9,10 +9,13 @@ use Rattle.diagrams.proofs.Expansion.{vars_below}
 use Rattle.forms.specs.declared.partition.Partition.{Partition}
 use Rattle.forms.specs.declared.partition.Mover.{Mover}
 use Rattle.forms.specs.declared.partition.Mover.TheVariants.{Agent, Environment}
+use Rattle.diagrams.specs.Live.{IsCanonical}
+use Rattle.automata.specs.Table.{IsRow}
+use Rattle.game.specs.Board.{width}
 use Rattle.game.specs.Winning.{WinsWithin, FailsDutyWithin}
 use Rattle.game.specs.Arena.{locations}
 use Rattle.game.specs.Numbers.{IsLeastOrNone}
-use Rattle.layers.specs.Ranked.{AreRanks}
+use Rattle.layers.specs.Ranked.{AreRanks, GoesByInput}
 use Rattle.attractor.specs.Minimax.{IsSolved}
 use Rattle.layers.specs.Layers.{is_output, IsRowTree}
 use Rattle.attractor.specs.Graph.{number_at}
@@ -65,6 +68,17 @@ end_is size end value = let e : nat_lt size size ≡ false = beyond size size (o
 eval-tree : (s : Diagrams) (i : Id) (a : Assignment) → eval s i a ≡ value_at (tree s i) a
 unfolding eval
 eval-tree s i a = refl
+
+-- rows that fit are an arena's, whatever goals and broken duties there are
+pub arena_rows : (s : Diagrams) (parts : Partition) (rows : List Id) (goals broken : List Bool) → IsCanonical s → width parts ≡ s.props
+    → ((at : ℕ) → at < length rows → IsRow s (length rows + 1) (id_at rows at)) → GoesByInput parts (locations_of s rows goals broken) → AreArenaRows s parts rows goals broken
+arena_rows s parts rows goals broken can w fit even = record {
+  canonical = can;
+  props = sym w;
+  rows_are = λ at h. let r = fit at h in (r.live, λ a. let l = r.targets a in omega arith);
+  letters = λ at h. (fit at h).letters;
+  even = even;
+}
 
 module _ (s : Diagrams) (parts : Partition) (duty : Bool) (rows : List Id) (goals broken : List Bool) (a : AreArenaRows s parts rows goals broken) where
   pub row_tree : (at : ℕ) → at < length rows → IsRowTree parts (locations_of s rows goals broken) at (tree s (id_at rows at))

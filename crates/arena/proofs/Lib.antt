@@ -1,0 +1,7 @@
+pub mod LeftLemmas
+pub mod JoinLemmas
+pub mod NumberedLemmas
+pub mod LeftOfLemmas
+pub mod BuildingLemmas
+pub mod CountLemmas
+pub mod EvenLemmas

@@ -1,0 +1,4 @@
+pub mod Told
+pub mod Numbered
+pub mod Left
+pub mod Building
