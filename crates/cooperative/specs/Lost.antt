@@ -1,0 +1,57 @@
+-- What becomes of the duty where the goal is out of reach.
+use Rattle.std.specs.Prelude.{◌≡◌, ◌<◌, ◌⊎◌, ◌↔◌, ℕ, Bool, List, length, slice_index_or, Option, Some, None, IsSome}
+use Rattle.attractor.specs.Graph.{number_at}
+use Rattle.forms.specs.Word.{Word}
+use Rattle.forms.specs.declared.partition.Partition.{Partition}
+use Rattle.game.specs.Board.{IsLeastNumber, width}
+use Rattle.game.specs.Winning.{FailsDutyWithin, KeepsDuty}
+use Rattle.game.specs.Following.{HoldsDutyWithin}
+use Rattle.game.specs.Histories.{Aims, histories}
+use Rattle.game.specs.Arena.{Locations, locations, LeadsTo, IsDecisionThere}
+use Rattle.cooperative.specs.declared.loss.Loss.{Loss}
+use Rattle.cooperative.specs.declared.loss.Loss.TheVariants.{Held, In}
+
+-- a number of rounds is a loss, no number none
+abbrev pub loss_of : Option ℕ → Loss
+loss_of None = Held
+loss_of (Some n) = In n
+
+-- where there is a rank or a distance, nothing is said
+abbrev pub loss_where : Option ℕ → Option ℕ → Option ℕ → Option Loss
+loss_where (Some k) distance number = None
+loss_where None (Some j) number = None
+loss_where None None number = Some (loss_of number)
+
+-- what is said of a location
+abbrev pub loss_at : List (Option Loss) → ℕ → Option Loss
+loss_at losses at = slice_index_or losses at None
+
+-- so many locations' losses
+pub record AreListed (ranks distances numbers : List (Option ℕ)) (losses : List (Option Loss)) (count : ℕ) : Type 0 where
+  pub size : length losses ≡ count
+  pub each : (at : ℕ) → at < count → loss_at losses at ≡ loss_where (number_at ranks at) (number_at distances at) (number_at numbers at)
+
+-- the loss says when P holds: for no number where it is held, and else from the least number on
+abbrev pub IsLoss : (ℕ → Type 0) → Loss → Type 0
+IsLoss P Held = (k : ℕ) → ¬ P k
+IsLoss P (In n) = IsLeastNumber P n
+
+-- the duty can't be broken within any number of rounds
+abbrev pub CanBeKept : Partition → Bool → Locations → ℕ → Type 0
+CanBeKept s duty m at = (k : ℕ) → ¬ FailsDutyWithin (locations s duty m) k at
+
+-- Nothing is said exactly where there is a rank or a distance. Elsewhere the duty is kept or lost as is said; numbers are below
+-- the number of locations; and moves after which the duty can still be kept keep it for every number of rounds.
+pub record AreKeptOrLost (s : Partition) (duty : Bool) (m : Locations) (rank distance : ℕ → Option ℕ) (losses : List (Option Loss)) : Type 0 where
+  pub size : length losses ≡ m.size
+  pub none : (at : ℕ) → at < m.size → (loss_at losses at ≡ None) ↔ (IsSome (rank at) ⊎ IsSome (distance at))
+  pub right : (at : ℕ) (loss : Loss) → at < m.size → loss_at losses at ≡ Some loss → IsLoss (λ n. FailsDutyWithin (locations s duty m) n at) loss
+  pub below : (at n : ℕ) → at < m.size → loss_at losses at ≡ Some (In n) → n < m.size
+  pub holds : (move : ℕ → ℕ → ℕ)
+      → ((at x : ℕ) → at < m.size → CanBeKept s duty m at → IsDecisionThere s m at x → KeepsDuty (locations s duty m) at x (move at x))
+      → (at n : ℕ) → at < m.size → loss_at losses at ≡ Some Held → HoldsDutyWithin (locations s duty m) move n at
+
+-- each history that leads to a location keeps or loses the duty as is said there
+abbrev pub AreHistoryLosses : Aims → Locations → List (Option Loss) → Type 0
+AreHistoryLosses s m losses = (h : Word) (at : ℕ) (loss : Loss) → LeadsTo (width s.parts) m h at → loss_at losses at ≡ Some loss
+    → IsLoss (λ n. FailsDutyWithin (histories s) n h) loss
