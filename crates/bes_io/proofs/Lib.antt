@@ -7,3 +7,4 @@ pub mod LineFacts
 pub mod LinesLemmas
 pub mod HeldFacts
 pub mod Bits
+pub mod AskingLemmas

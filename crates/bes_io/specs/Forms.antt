@@ -1,5 +1,5 @@
 -- What a contract sees of the memory forms.
-use Rattle.std.specs.Prelude.{◌≡◌, ℕ, ◌+◌, ◌-◌, ◌^◌, ◌<◌, ◌⊎◌, min, List, Contains, length, take, Option, None, Some}
+use Rattle.std.specs.Prelude.{◌≡◌, ℕ, ◌+◌, ◌-◌, ◌^◌, ◌<◌, ◌⊎◌, min, List, [], Contains, length, take, drop, Option, None, Some}
 use Rattle.std.specs.Prelude.{◌∷◌, ◌++◌, if◌then◌else◌}
 use Rattle.std.specs.Str.{bytes_eq}
 
@@ -22,6 +22,20 @@ SourceFails s = Contains s.fails (counted s.calls)
 -- how many bytes the next call gives
 abbrev pub given : MemorySource → ℕ → ℕ
 given s room = min s.piece (min room (length s.rest))
+
+-- a call of `take` is counted and gives the first n bytes of the rest; the faults are these, and nothing else changes
+pub record HasGiven (before : MemorySource) (n : ℕ) (faults : ℕ) (after : MemorySource) : Type 0 where
+  pub rest_now : after.rest ≡ drop n before.rest
+  pub faults_now : after.faults ≡ faults
+  pub calls : after.calls ≡ counted before.calls
+  pub piece : after.piece ≡ before.piece
+  pub fails : after.fails ≡ before.fails
+
+-- one call of `take` with this room gives the bytes that are due, or fails, and then gives none, and the fault is counted
+abbrev pub IsMemTaken : MemorySource → ℕ → List ℕ → MemorySource → Type 0
+IsMemTaken before room bytes after =
+    ((¬ SourceFails before) × (bytes ≡ take (given before room) before.rest) × HasGiven before (given before room) before.faults after)
+    ⊎ (SourceFails before × (bytes ≡ []) × HasGiven before 0 (counted before.faults) after)
 
 -- a sink over memory: what it holds, its room, how much of its piece a call that fails still adds, the calls that are to
 -- fail, the calls and the faults so far

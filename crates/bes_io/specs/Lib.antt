@@ -9,3 +9,4 @@ pub mod Lines
 pub mod Standard
 pub mod LineLaws
 pub mod Steps
+pub mod Asking

@@ -1,7 +1,7 @@
 -- What contracts see of the real outside: how often it failed, and its reader or writer, of which the clauses `reads` and
 -- `writes` pass on what std told.
-use Rattle.std.specs.Prelude.{◌≡◌, ◌⊎◌, ℕ, List, Option, None}
-use Rattle.std.specs.Io.KnownBytes.{Appends}
+use Rattle.std.specs.Prelude.{◌≡◌, ◌≤◌, ◌⊎◌, ℕ, List, [], length, Option, None}
+use Rattle.std.specs.Io.KnownBytes.{Appends, Consumes, IsAtEnd, Keeps}
 use Rattle.bes_io.specs.Forms.{counted}
 use Rattle.bes_io.specs.declared.standard.StdSource.{StdSource}
 use Rattle.bes_io.specs.declared.standard.StdSink.{StdSink}
@@ -38,6 +38,23 @@ told_left source = None
 -- the sink tells nothing of what it holds
 abbrev pub told_held : {W : Type 0} → StdSink W → Option (List ℕ)
 told_held sink = None
+
+-- the reader gave these bytes, of no more than the room, and none only at its end, by what readers tell; the faults stand
+pub record HasRead {R : Type 0} (remaining : R → Option (List ℕ)) (before : StdSource R) (room : ℕ) (bytes : List ℕ) (after : StdSource R) : Type 0 where
+  pub within : length bytes ≤ room
+  pub given : Consumes (remaining before.reader) (remaining after.reader) bytes
+  pub end : bytes ≡ [] → IsAtEnd (remaining after.reader)
+  pub faults_now : after.faults ≡ before.faults
+
+-- the reader gave nothing and lost nothing, by what readers tell, and one more fault is counted
+pub record HasFailed {R : Type 0} (remaining : R → Option (List ℕ)) (before : StdSource R) (bytes : List ℕ) (after : StdSource R) : Type 0 where
+  pub none : bytes ≡ []
+  pub kept : Keeps (remaining before.reader) (remaining after.reader)
+  pub faults_now : after.faults ≡ counted before.faults
+
+-- one call of `take` with this room: the reader gave bytes, or failed
+abbrev pub IsStdTaken : {R : Type 0} → (R → Option (List ℕ)) → StdSource R → ℕ → List ℕ → StdSource R → Type 0
+IsStdTaken remaining before room bytes after = HasRead remaining before room bytes after ⊎ HasFailed remaining before bytes after
 
 -- one call of `put`: the writer took the whole piece, by what writers tell, and the faults stand; or one more is counted
 abbrev pub IsStdPut : {W : Type 0} → (W → Option (List ℕ)) → StdSink W → List ℕ → StdSink W → Type 0

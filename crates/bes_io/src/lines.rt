@@ -115,6 +115,7 @@ fn remove_front(buffer: &mut ArrayVec<u8, 4097>, n: usize)
 
 impl LineReader {
     ghost use Rattle.std.specs.Prelude.{Ok, Err};
+    ghost use Rattle.bes_io.specs.Asking.{IsAsked, IsTakenOnce};
     ghost use Rattle.bes_io.specs.Causes.{HasCause};
     ghost use Rattle.bes_io.specs.Steps.{decided, settled, closed, holding};
     ghost use Rattle.bes_io.specs.Reader.{fresh, allowed, input, next_of, Finds, HasReadCause, HeldTells, StandsAfter, IsStopped, Repeats};
@@ -196,6 +197,7 @@ impl LineReader {
         ensures end { result ≡ Ok 0 → (rest : List ℕ) → S.left source.new ≡ Some rest → rest ≡ [] }
         ensures err { OnErr result ((self.new.held ≡ self.old.held) × (result ≡ Err LineFault.ReadFault)) }
         ensures cause { HasCause (S.faults source.old) (S.faults source.new) result }
+        ensures taken { IsTakenOnce S.IsTaken source.old source.new }
     {
         remove_front(&mut self.buffer, self.start);
         self.start = 0;
@@ -238,6 +240,7 @@ impl LineReader {
         ensures finds { (bytes : List ℕ) → input self.old (S.left source.old) ≡ Some bytes
             → Finds self.old bytes result self.new (S.left source.new) }
         ensures cause { HasReadCause (S.faults source.old) (S.faults source.new) result }
+        ensures asked { IsAsked S.faults S.IsTaken source.old source.new }
         ensures held { HeldTells self.old result self.new }
         ensures stands { StandsAfter result self.new }
         ensures progress { result ≡ Ok Found.Line → allowed self.new < allowed self.old }
@@ -259,6 +262,7 @@ impl LineReader {
         ensures finds { (bytes : List ℕ) → input self.old (S.left source.old) ≡ Some bytes
             → Finds self.old bytes result self.new (S.left source.new) }
         ensures cause { HasReadCause (S.faults source.old) (S.faults source.new) result }
+        ensures asked { IsAsked S.faults S.IsTaken source.old source.new }
         ensures held { HeldTells self.old result self.new }
         ensures stands { StandsAfter result self.new }
         ensures repeats { Repeats self.old.phase result }
@@ -301,6 +305,9 @@ impl LineReader {
         ensures repeats { Repeats self.old.phase result }
         ensures progress { result ≡ Ok Found.Line → allowed self.new < allowed self.old }
         ensures reads_ahead { result ≡ Ok Found.Line → length self.new.held < 4097 }
+
+        // What a call makes of the source are calls of `take`, and a source that failed is not asked again by this call.
+        ensures asked { IsAsked S.faults S.IsTaken source.old source.new }
 
         // Where an LF is held, and where the reader has stopped, the source is not asked.
         ensures untouched { Contains self.old.held 10 → source.new ≡ source.old }

@@ -1,8 +1,9 @@
 //! Sources and sinks over memory, for tests and for callers that have the bytes. `memory_files` has the files.
 ghost use Rattle.std.specs.Prelude.{◌≡◌, ◌+◌, ◌-◌, ◌^◌, ◌<◌, ◌≤◌, ◌↔◌, [], ◌++◌, length, take, drop, min, Some, IfOk, IsErr, OnErr};
+ghost use Rattle.bes_io.specs.Asking.{given_bytes};
 ghost use Rattle.bes_io.specs.Causes.{HasCause};
 ghost use Rattle.bes_io.specs.Streams.{Takes, Puts};
-ghost use Rattle.bes_io.specs.Forms.{SourceFails, given, counted, SinkFails, added_partly, IsMemPut};
+ghost use Rattle.bes_io.specs.Forms.{SourceFails, given, counted, IsMemTaken, SinkFails, added_partly, IsMemPut};
 
 use crate::outside::{Failed, Memory, Sink, Source};
 use std::alloc::Global;
@@ -57,11 +58,14 @@ impl Source for MemSource {
 
     ghost faults = { λ s. s.faults };
 
+    ghost IsTaken = { IsMemTaken };
+
     fn take(&mut self, into: &mut [u8]) -> Result<usize, Failed>
         requires { 0 < length into.old }
         ensures bound { IfOk result (λ n. n ≤ length into.old) }
         ensures bytes { Takes (Some self.old.rest) (Some self.new.rest) result into.new }
         ensures cause { HasCause self.old.faults self.new.faults result }
+        ensures taken { IsMemTaken self.old (length into.old) (given_bytes result into.new) self.new }
         ensures exact { IsErr result ↔ SourceFails self.old }
         ensures faults { OnErr result (self.new.faults ≡ counted self.old.faults) }
         ensures count { IfOk result (λ n. n ≡ given self.old (length into.old)) }

@@ -1,5 +1,6 @@
 //! What the suite asks of the outside, and how it fails.
 ghost use Rattle.std.specs.Prelude.{◌≡◌, ℕ, ◌<◌, ◌≤◌, List, length, Option, IfOk, ◌++◌, vec_len};
+ghost use Rattle.bes_io.specs.Asking.{given_bytes};
 ghost use Rattle.bes_io.specs.Causes.{HasCause};
 ghost use Rattle.bes_io.specs.Streams.{Takes, Puts, ReadsFile, failure};
 
@@ -35,11 +36,15 @@ pub enum FileFault {
     Memory,
 }
 
-/// Bytes that come in. A source may tell what it has left; `faults` counts its failures, and ends at 2^64 - 1.
+/// Bytes that come in. A source may tell what it has left; `faults` counts its failures, and ends at
+/// 2^64 - 1. `IsTaken` says what one call of `take` with some room, which gave these bytes, makes of
+/// the source, so that a caller can say how it asks.
 pub trait Source {
     ghost left: { Self → Option (List ℕ) };
 
     ghost faults: { Self → ℕ };
+
+    ghost IsTaken: { Self → ℕ → List ℕ → Self → Type 0 };
 
     /// Fills the front of `into` and answers with how many bytes. 0 is the end of input. The bytes of `into` past these are
     /// not to be read.
@@ -47,7 +52,8 @@ pub trait Source {
         requires { 0 < length into.old }
         ensures bound { IfOk result (λ n. n ≤ length into.old) }
         ensures bytes { Takes (left self.old) (left self.new) result into.new }
-        ensures cause { HasCause (faults self.old) (faults self.new) result };
+        ensures cause { HasCause (faults self.old) (faults self.new) result }
+        ensures taken { IsTaken self.old (length into.old) (given_bytes result into.new) self.new };
 }
 
 /// Bytes that go out. A sink may tell what it holds; `faults` counts its failures, and ends at

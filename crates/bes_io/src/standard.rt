@@ -1,11 +1,13 @@
 //! The real outside: standard input and output, and the file system. What a reader or writer of `std` told is passed on by
 //! `reads` and `writes`; these three tell no content, so there what `std` does is trusted.
-ghost use Rattle.std.specs.Prelude.{◌≡◌, ◌≤◌, ◌<◌, length, [], ◌++◌, IfOk, OnOk, vec_len};
+ghost use Rattle.std.specs.Prelude.{◌≡◌, ◌≤◌, ◌<◌, length, [], ◌++◌, IfOk, OnOk, OnErr, vec_len};
 ghost use Rattle.std.specs.Str.{IsUtf8};
 ghost use Rattle.std.specs.Io.KnownBytes.{ReadConsumes, Appends};
+ghost use Rattle.bes_io.specs.Asking.{given_bytes};
 ghost use Rattle.bes_io.specs.Causes.{HasCause};
+ghost use Rattle.bes_io.specs.Forms.{counted};
 ghost use Rattle.bes_io.specs.Streams.{Takes, Puts, ReadsFile, failure};
-ghost use Rattle.bes_io.specs.Standard.{reader_of, writer_of, told_left, told_held, IsStdPut, source_faults, sink_faults, failed_names, told_contents};
+ghost use Rattle.bes_io.specs.Standard.{reader_of, writer_of, told_left, told_held, IsStdTaken, IsStdPut, source_faults, sink_faults, failed_names, told_contents};
 
 use crate::outside::{Failed, FileFault, Files, Sink, Source};
 use crate::words::Word;
@@ -35,11 +37,17 @@ impl<R: Read> Source for StdSource<R> {
 
     ghost faults = { source_faults };
 
+    ghost IsTaken = { IsStdTaken R.remaining };
+
     fn take(&mut self, into: &mut [u8]) -> Result<usize, Failed>
         requires { 0 < length into.old }
         ensures bound { IfOk result (λ n. n ≤ length into.old) }
         ensures bytes { Takes (told_left self.old) (told_left self.new) result into.new }
         ensures cause { HasCause (source_faults self.old) (source_faults self.new) result }
+        ensures taken { IsStdTaken R.remaining self.old (length into.old) (given_bytes result into.new) self.new }
+
+        // One fault is counted once.
+        ensures faults { OnErr result (source_faults self.new ≡ counted (source_faults self.old)) }
 
         // What the reader gave is passed on.
         ensures reads { ReadConsumes (R.remaining (reader_of self.old)) (R.remaining (reader_of self.new)) result into.new }

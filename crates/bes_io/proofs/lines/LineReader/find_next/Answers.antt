@@ -3,6 +3,7 @@ use Rattle.bes_io.proofs.Finding.{settled-at, found-after, contains-lf, undecide
 use Rattle.std.specs.Io.{StartsWith}
 use Rattle.bes_io.proofs.HeldFacts.{tells-settled, tells-after, starts-refl}
 use Rattle.bes_io.specs.Reader.{input, allowed}
+use Rattle.bes_io.specs.Asking.{unasked}
 use Rattle.bes_io.specs.Steps.{holding}
 use Rattle.bes_io.proofs.lines.LineReader.find_next.Goals as goal
 
@@ -31,3 +32,15 @@ returns-in-Some-clause-held g c =
 
 pub returns-in-None-clause-held : goal.returns-in-None-clause-held
 returns-in-None-clause-held g c = tells-after c.args.self.now c.settle.new.self c.gather.new.self c.gather.result ((undecided-at c.args.self.now _ c.settle.new.self c.settle.result (ap (λ r. holding r r.held) c.self.view_is) c.settle.ensures.answer c.in-None.is c.settle.ensures.after).0) c.gather.ensures.held
+
+pub returns-in-Some-clause-asked : goal.returns-in-Some-clause-asked
+returns-in-Some-clause-asked g c = unasked
+
+pub returns-in-Closed-clause-asked : goal.returns-in-Closed-clause-asked
+returns-in-Closed-clause-asked g c = unasked
+
+pub returns-in-StoppedAtLine-clause-asked : goal.returns-in-StoppedAtLine-clause-asked
+returns-in-StoppedAtLine-clause-asked g c = unasked
+
+pub returns-in-StoppedAtInput-clause-asked : goal.returns-in-StoppedAtInput-clause-asked
+returns-in-StoppedAtInput-clause-asked g c = unasked

@@ -1,11 +1,12 @@
-use Rattle.std.proofs.Common.{◌≡◌, ◌-◌, length, arith, ◌∙◌, sym, refl, ap, subst, None, Ok, Err}
+use Rattle.std.proofs.Common.{rules, ◌≡◌, ◌-◌, length, arith, ◌∙◌, sym, refl, ap, subst, None, Ok, Err}
 use Rattle.std.proofs.lemmas.Result.{err_from_is_err_and}
 use Rattle.std.proofs.lemmas.Grind.{common_steps}
 use Rattle.bes_io.proofs.Deciding.{text_len-more}
 use Rattle.bes_io.proofs.Finding.{settled-at, closed-at, no_lf, contains-lf}
 use Rattle.bes_io.specs.Reader.{allowed, next_of, HeldTells}
 use Rattle.bes_io.specs.declared.lines.LineFault.TheVariants.{ReadFault}
-use Rattle.bes_io.proofs.HeldFacts.{tells-settled, tells-closed, tells-fault, starts-trans, fault-is}
+use Rattle.bes_io.proofs.HeldFacts.{tells-settled, tells-closed, tells-fault, starts-trans, starts-refl, fault-is}
+use Rattle.bes_io.specs.Asking.{unasked, asked}
 use Rattle.bes_io.specs.Steps.{holding, decided}
 use Rattle.bes_io.proofs.lines.LineReader.gather.Goals as goal
 
@@ -54,3 +55,25 @@ returns-in_err-fill-clause-held g c =
     let p = err_from_is_err_and c.from_residual.result c.from_residual.ensures.1 in
     let is : Err ReadFault ≡ c.from_residual.result = sym (p.1 ∙ ap Err (p.2 ∙ fault-is (Err c.in_err-fill.field-0.0) c.in_err-fill.field-0.0 refl c.in_err-fill.ensures.err.1)) in
     subst (λ r. HeldTells c.args.self.now r c.fill.new.self) is told
+
+pub loop-self-init : goal.loop-self-init
+loop-self-init g c = (search rules, search rules, starts-refl c.args.self.now.held, search rules, search rules, unasked)
+
+pub loop-self-preserved : goal.loop-self-preserved
+loop-self-preserved g c = (
+  search rules,
+  search rules,
+  grind (arith, common_steps),
+  search rules,
+  search rules,
+  asked c.loop-self.invariant.5 c.loop-self.invariant.4 c.fill.ensures.taken,
+)
+
+pub returns-in_err-fill-clause-asked : goal.returns-in_err-fill-clause-asked
+returns-in_err-fill-clause-asked g c = asked c.loop-self.invariant.5 c.loop-self.invariant.4 c.fill.ensures.taken
+
+pub returns-then-branch-eq0-clause-asked : goal.returns-then-branch-eq0-clause-asked
+returns-then-branch-eq0-clause-asked g c = asked c.loop-self.invariant.5 c.loop-self.invariant.4 c.fill.ensures.taken
+
+pub returns-in-Some-clause-asked : goal.returns-in-Some-clause-asked
+returns-in-Some-clause-asked g c = asked c.loop-self.invariant.5 c.loop-self.invariant.4 c.fill.ensures.taken
