@@ -8,3 +8,4 @@ pub mod LinesLemmas
 pub mod HeldFacts
 pub mod Bits
 pub mod AskingLemmas
+pub mod TooLong
