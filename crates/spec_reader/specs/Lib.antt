@@ -1,2 +1,9 @@
 pub mod Event
 pub mod Word
+pub mod Shared
+pub mod Specification
+pub mod Refusal
+pub mod Said
+pub mod Formulas
+pub mod Sides
+pub mod Answer
