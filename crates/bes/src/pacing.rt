@@ -3,32 +3,49 @@ ghost use Rattle.std.specs.Prelude.{◌≡◌, ◌≢◌, ◌⊎◌, codes};
 ghost use Rattle.std.specs.Io.{WritesAtMost};
 
 use bes_io::Sink;
-use bes_suite::Status;
+use command_endings::Status;
 use std::alloc::Global;
 use std::cell::RefCell;
 use std::io::{BufWriter, Error, ErrorKind, Read, Result, Write};
 
 const OUTSIDE_FAULT: &[u8] = b"bes: outside fault\n";
 
+/// Where the output goes: into a buffer first or, where there is no memory for one, at once.
+#[derive(Drop)]
+enum Output<W: Write + Drop> {
+    Buffered(BufWriter<W>),
+    Plain(W),
+}
+
 /// A writer that several hold, with the bytes that wait for it.
 #[derive(Drop)]
 pub struct HeldOutput<W: Write + Drop> {
-    writer: RefCell<BufWriter<W>>,
+    writer: RefCell<Output<W>>,
 }
 
 impl<W: Write + Drop> HeldOutput<W> {
     /// Nothing waits yet. It fails where there is no memory for the buffer.
     pub fn new(alloc: Global, writer: W) -> Result<Self> {
         Ok(HeldOutput {
-            writer: RefCell::new(BufWriter::new(alloc, writer)?),
+            writer: RefCell::new(Output::Buffered(BufWriter::new(alloc, writer)?)),
         })
+    }
+
+    /// An output of which nothing ever waits. It takes no memory.
+    pub fn plain(writer: W) -> Self {
+        HeldOutput {
+            writer: RefCell::new(Output::Plain(writer)),
+        }
     }
 
     fn write(&self, bytes: &[u8]) -> Result<usize>
         ensures { WritesAtMost result bytes.now }
     {
         match self.writer.try_borrow_mut() {
-            Ok(mut writer) => writer.write(bytes),
+            Ok(mut output) => match &mut *output {
+                Output::Buffered(writer) => writer.write(bytes),
+                Output::Plain(writer) => writer.write(bytes),
+            },
             Err(_) => Err(Error::from(ErrorKind::Other)),
         }
     }
@@ -36,7 +53,10 @@ impl<W: Write + Drop> HeldOutput<W> {
     /// Writes all that waits. What a fault leaves unwritten waits on.
     pub fn flush(&self) -> Result<()> {
         match self.writer.try_borrow_mut() {
-            Ok(mut writer) => writer.flush(),
+            Ok(mut output) => match &mut *output {
+                Output::Buffered(writer) => writer.flush(),
+                Output::Plain(writer) => writer.flush(),
+            },
             Err(_) => Err(Error::from(ErrorKind::Other)),
         }
     }

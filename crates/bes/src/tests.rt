@@ -1,6 +1,6 @@
 use crate::pacing::{HeldOutput, PacedInput, PacedMessages, PacedOutput, close};
 use bes_io::{Sink, StdSink};
-use bes_suite::Status;
+use command_endings::Status;
 use std::cell::Cell;
 use std::io::{Error, ErrorKind, Read, Result, Write};
 use std::test::Fail;

@@ -1,5 +1,5 @@
 -- The commands, by the words of the command line.
-use Rattle.std.specs.Prelude.{ℕ, ◌==◌, if◌then◌else◌, List, [], length, codes, Bool, true, false, Option, Some, None}
+use Rattle.std.specs.Prelude.{ℕ, ◌==◌, if◌then◌else◌, List, [], length, codes, Option, Some, None}
 use Rattle.std.specs.List.{slice_index_or}
 use Rattle.std.specs.Str.{bytes_eq}
 use Rattle.form_tokens.specs.declared.dialect.Dialect.{Dialect}
@@ -28,22 +28,10 @@ abbrev pub command_with : List ℕ → Option Dialect → Command
 command_with word None = Usage
 command_with word (Some dialect) = command_in word dialect
 
+-- what so many words ask for, of which these are the first two: three are a command, a dialect and a formula
+abbrev pub command_named : ℕ → List ℕ → List ℕ → Command
+command_named count first second = if count == 3 then command_with first (dialect_of second) else Usage
+
 -- what the words ask for
 abbrev pub command_of : List (List ℕ) → Command
-command_of words = if length words == 3 then command_with (word_at words 0) (dialect_of (word_at words 1)) else Usage
-
--- whether the command reads the input
-abbrev pub reads_input : Command → Bool
-reads_input Usage = false
-reads_input (Judge dialect) = true
-reads_input (Forms dialect) = false
-reads_input (Translate dialect) = false
-reads_input (Monitor dialect) = true
-
--- the file that the command reads, if it reads one
-abbrev pub file_of : Command → List (List ℕ) → Option (List ℕ)
-file_of Usage words = None
-file_of (Judge dialect) words = None
-file_of (Forms dialect) words = None
-file_of (Translate dialect) words = None
-file_of (Monitor dialect) words = None
+command_of words = command_named (length words) (word_at words 0) (word_at words 1)

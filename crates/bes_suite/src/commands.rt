@@ -1,7 +1,7 @@
 //! The commands, by the words.
 ghost use Rattle.std.specs.Prelude.{◌≡◌};
 ghost use Rattle.std.specs.Str.{bytes_eq};
-ghost use Rattle.bes_suite.specs.Commands.{command_in, command_of, dialect_of};
+ghost use Rattle.bes_suite.specs.Commands.{command_in, command_named, command_of, dialect_of};
 
 use bes_io::Word;
 use form_tokens::Dialect;
@@ -22,14 +22,14 @@ pub enum Command {
 }
 
 /// Whether the word is this text.
-fn is_word(word: &Word, text: &[u8]) -> bool
+fn is_word(word: &[u8], text: &[u8]) -> bool
     ensures { result ≡ bytes_eq word.now text.now }
 {
-    word.bytes() == text
+    word == text
 }
 
 /// The dialect that the word names.
-fn find_dialect(word: &Word) -> Option<Dialect>
+fn find_dialect(word: &[u8]) -> Option<Dialect>
     ensures { result ≡ dialect_of word.now }
 {
     if is_word(word, b"ltlf") {
@@ -42,7 +42,7 @@ fn find_dialect(word: &Word) -> Option<Dialect>
 }
 
 /// The command that a word names, in a dialect.
-fn find_command_in(word: &Word, dialect: Dialect) -> Command
+fn find_command_in(word: &[u8], dialect: Dialect) -> Command
     ensures { result ≡ command_in word.now dialect }
 {
     if is_word(word, b"judge") {
@@ -58,15 +58,25 @@ fn find_command_in(word: &Word, dialect: Dialect) -> Command
     }
 }
 
+/// The command of so many words, of which these are the first two.
+pub fn named_command(count: usize, first: &[u8], second: &[u8]) -> Command
+    ensures { result ≡ command_named count first.now second.now }
+{
+    if count != 3 {
+        return Command::Usage;
+    }
+    match find_dialect(second) {
+        Some(dialect) => find_command_in(first, dialect),
+        None => Command::Usage,
+    }
+}
+
 /// The command of the words.
 pub fn find_command(words: &[Word]) -> Command
     ensures { result ≡ command_of words.now }
 {
-    if words.len() != 3 {
+    if words.len() < 2 {
         return Command::Usage;
     }
-    match find_dialect(&words[1]) {
-        Some(dialect) => find_command_in(&words[0], dialect),
-        None => Command::Usage,
-    }
+    named_command(words.len(), words[0].bytes(), words[1].bytes())
 }

@@ -1,23 +1,11 @@
 //! The top call of the suite: `run` does what the words of a command line ask for.
 //!
-//! `specs/Answers.antt` says what they ask for, one case a command, and `specs/Results.antt` what a
-//! run leaves by its status. No command has logic of its own: each calls the crates below.
+//! `specs/Asked.antt` says what they ask for, one line a command, and `specs/Results.antt` what a run
+//! leaves by its status. No command has logic of its own here: each is a crate.
 #![tactic(auto)]
 
-mod automaton_text;
 mod commands;
-mod endings;
-mod formulas;
-mod judging;
-mod limits;
-mod messages;
-mod monitoring;
-mod putting;
 mod running;
-mod showing;
-mod traces;
-mod translation;
 
-pub use commands::Command;
-pub use endings::{Ending, Refusal, Status};
+pub use commands::{Command, named_command};
 pub use running::run;

@@ -1,28 +1,24 @@
 //! The top call, which does all that the program does.
-ghost use Rattle.std.specs.Prelude.{◌≡◌, ◌≢◌, ℕ, ◌<◌, ◌⊎◌, List, [], Some, None, IsTrue, false, length};
+ghost use Rattle.std.specs.Prelude.{◌≡◌, ℕ, ◌⊎◌, List, None};
 ghost use Rattle.forms.specs.Tree.{Formula};
-ghost use Rattle.forms.specs.Word.{IsOver};
-ghost use Rattle.forms.specs.Satisfaction.{meets};
-ghost use Rattle.minimise.specs.Minimal.{IsOnlyFor};
-ghost use Rattle.bes_suite.specs.Replies.{Reply};
-ghost use Rattle.bes_suite.specs.Translation.{IsTranslation, AgreeButForParts};
-ghost use Rattle.bes_suite.specs.Commands.{command_of, reads_input, file_of};
-ghost use Rattle.bes_suite.specs.Results.{IsAnswered, Partial, HasFaultCause, HasMessageCause, CountsStand, LeavesMessage, IsUnread};
-ghost use Rattle.bes_suite.specs.Answers.{AnswersWith, MayRead, Contents};
-ghost use Rattle.bes_suite.specs.Runs.{Finishes};
-ghost use Rattle.bes_suite.specs.Calls.{IsPutOnce, PutsReply, PutsLines, Asks};
-ghost use Rattle.bes_suite.specs.Endings.{status_of, message_of};
-ghost use Rattle.bes_suite.specs.Streams.{is_streaming, Streams};
-ghost use Rattle.bes_suite.specs.Worlds.{world, needs_of, Tells, Gains, IfNeeded, NoOutputIsDue, Performs};
+ghost use Rattle.command_endings.specs.Endings.{status_of};
+ghost use Rattle.command_endings.specs.Reading.{Reads};
+ghost use Rattle.command_endings.specs.Tasks.{Performs};
+ghost use Rattle.command_endings.specs.Worlds.{world};
+ghost use Rattle.command_endings.specs.Writing.{Writes};
+ghost use Rattle.translate_command.specs.Translation.{IsTranslation, IsOnlyTranslation};
+ghost use Rattle.bes_suite.specs.Asked.{task_of};
+ghost use Rattle.bes_suite.specs.Commands.{command_of};
+ghost use Rattle.bes_suite.specs.Results.{IsAnswered, AsksForOne, IsComplete, HasFaultCause, CountsStand, IsPartial, IsStreamed, PutsMessages, KeepsFiles, IsReadSoFar};
 
 use crate::commands::{Command, find_command};
-use crate::endings::{Ending, Refusal, Status, finish};
-use crate::judging::judge_formula;
-use crate::monitoring::monitor_formula;
-use crate::showing::show_formula;
-use crate::translation::translate_formula;
 use bes_io::{Files, Sink, Source, Word};
+use command_endings::{Ending, Refusal, Status, finish};
+use forms_command::show_formula;
+use judge_command::judge_formula;
+use monitor_command::monitor_formula;
 use std::alloc::Global;
+use translate_command::translate_formula;
 
 /// Does what the words ask for, and tells how the run ends. It puts no message.
 fn perform<F: Files, S: Source, O: Sink>(
@@ -32,28 +28,16 @@ fn perform<F: Files, S: Source, O: Sink>(
     input: &mut S,
     out: &mut O,
 ) -> Ending
-    ensures performs { Performs (needs_of words.now) (AnswersWith words.now) (MayRead words.now)
-        (world (F.contents files.old) (F.failed files.old) (S.left input.old) (S.faults input.old) (O.held out.old) (O.faults out.old))
-        (world (F.contents files.new) (F.failed files.new) (S.left input.new) (S.faults input.new) (O.held out.new) (O.faults out.new)) result }
-    ensures streams { (contents : Contents) (rest : List ℕ) →
-        Tells (needs_of words.now) (MayRead words.now) (world (F.contents files.old) (F.failed files.old) (S.left input.old) (S.faults input.old) (O.held out.old) (O.faults out.old)) contents rest →
-        IfNeeded (is_streaming (command_of words.now)) (Streams (AnswersWith words.now contents) rest
-        (world (F.contents files.old) (F.failed files.old) (S.left input.old) (S.faults input.old) (O.held out.old) (O.faults out.old))
-        (world (F.contents files.new) (F.failed files.new) (S.left input.new) (S.faults input.new) (O.held out.new) (O.faults out.new))) }
-    ensures silent { (contents : Contents) (rest : List ℕ) →
-        Tells (needs_of words.now) (MayRead words.now) (world (F.contents files.old) (F.failed files.old) (S.left input.old) (S.faults input.old) (O.held out.old) (O.faults out.old)) contents rest →
-        NoOutputIsDue (AnswersWith words.now contents rest) → out.new ≡ out.old }
-    ensures nothing { result ≡ Ending.NoMemory → out.new ≡ out.old }
-    ensures unwritten { is_streaming (command_of words.now) ≡ false → S.faults input.old < S.faults input.new → out.new ≡ out.old }
-    ensures served { IsTrue (is_streaming (command_of words.now)) → result ≡ Ending.NoMemory → input.new ≡ input.old }
-    ensures once { is_streaming (command_of words.now) ≡ false → IsPutOnce O.IsPut out.old out.new }
-    ensures written { (contents : Contents) (rest : List ℕ) →
-        Tells (needs_of words.now) (MayRead words.now) (world (F.contents files.old) (F.failed files.old) (S.left input.old) (S.faults input.old) (O.held out.old) (O.faults out.old)) contents rest →
-        is_streaming (command_of words.now) ≡ false → PutsReply O.IsPut (AnswersWith words.now contents rest) out.old out.new (status_of result) }
-    ensures lines { IsTrue (is_streaming (command_of words.now)) → PutsLines O.IsPut out.old out.new }
+    ensures performs { let before = world (F.contents files.old) (F.failed files.old) (S.left input.old) (S.faults input.old) (O.held out.old) (O.faults out.old) in
+        let after = world (F.contents files.new) (F.failed files.new) (S.left input.new) (S.faults input.new) (O.held out.new) (O.faults out.new) in
+        Performs (task_of words.now) before after result }
+    ensures writes { let before = world (F.contents files.old) (F.failed files.old) (S.left input.old) (S.faults input.old) (O.held out.old) (O.faults out.old) in
+        let after = world (F.contents files.new) (F.failed files.new) (S.left input.new) (S.faults input.new) (O.held out.new) (O.faults out.new) in
+        Writes O.IsPut (task_of words.now) before after out.old out.new (status_of result) }
+    ensures reads { let before = world (F.contents files.old) (F.failed files.old) (S.left input.old) (S.faults input.old) (O.held out.old) (O.faults out.old) in
+        Reads S.faults S.IsTaken (task_of words.now) before input.old input.new (status_of result) }
     ensures usage { command_of words.now ≡ Command.Usage → result ≡ Ending.Refused Refusal.Usage }
-    ensures unread { ¬ MayRead words.now → input.new ≡ input.old }
-    ensures unopened { file_of (command_of words.now) words.now ≡ None → files.new ≡ files.old }
+    ensures unopened { (task_of words.now).file ≡ None → files.new ≡ files.old }
 {
     match find_command(words) {
         Command::Usage => Ending::Refused(Refusal::Usage),
@@ -78,103 +62,72 @@ pub fn run<F: Files, S: Source, O: Sink, E: Sink>(
 ) -> Status
     // Where the named file and the input tell what they hold, each status but 7 and 8 is the one that they and the words
     // ask for, with its output and its message. They ask for one thing, so nothing but 7 and 8 comes in its place.
-    ensures answers { (contents : Contents) (rest : List ℕ) →
-        Tells (needs_of words.now) (MayRead words.now) (world (F.contents files.old) (F.failed files.old) (S.left input.old) (S.faults input.old) (O.held out.old) (O.faults out.old)) contents rest →
-        IsAnswered (AnswersWith words.now contents rest)
-        (world (F.contents files.old) (F.failed files.old) (S.left input.old) (S.faults input.old) (O.held out.old) (O.faults out.old))
-        (world (F.contents files.new) (F.failed files.new) (S.left input.new) (S.faults input.new) (O.held out.new) (O.faults out.new))
-        (E.held err.old) (E.held err.new) result.number }
-    ensures one { (contents : Contents) (rest : List ℕ) (c d : Reply) →
-        AnswersWith words.now contents rest c → AnswersWith words.now contents rest d → c ≡ d }
+    ensures answers { let before = world (F.contents files.old) (F.failed files.old) (S.left input.old) (S.faults input.old) (O.held out.old) (O.faults out.old) in
+        let after = world (F.contents files.new) (F.failed files.new) (S.left input.new) (S.faults input.new) (O.held out.new) (O.faults out.new) in
+        IsAnswered (task_of words.now) before after (E.held err.old) (E.held err.new) result.number }
+    ensures one { AsksForOne (task_of words.now) }
 
-    // The automaton that `translate` prints is the same for every formula over the same names in the same order with
-    // the same traces, and no automaton of these traces is smaller.
-    ensures only_automaton { (names : List (List ℕ)) (f : Formula) (text : List ℕ) (t : IsTranslation names f text) →
-        IsOnlyFor (length names) t.automaton (λ w. meets (length names) f w) }
+    // What is accepted is answered: where no fault has a cause the status is 0 or 1, with the output that is asked for, or 8.
+    ensures complete { let before = world (F.contents files.old) (F.failed files.old) (S.left input.old) (S.faults input.old) (O.held out.old) (O.faults out.old) in
+        let after = world (F.contents files.new) (F.failed files.new) (S.left input.new) (S.faults input.new) (O.held out.new) (O.faults out.new) in
+        IsComplete (task_of words.now) before after (E.held err.old) (E.held err.new) (E.faults err.old) (E.faults err.new) result.number }
 
-    // The texts of two such formulas agree but for the lines of parts.
-    ensures only_text { (names : List (List ℕ)) (f g : Formula) (text other : List ℕ) (t : IsTranslation names f text) (u : IsTranslation names g other) →
-        ((w : List ℕ) → IsOver (length names) w → meets (length names) f w ≡ meets (length names) g w) → AgreeButForParts names f g text other t u }
+    // The automaton that `translate` prints is fixed by the names and the traces, and so are the words that tell its
+    // locations apart; none with these traces is smaller.
+    ensures only_automaton { (names : List (List ℕ)) (f : Formula) (text : List ℕ) (t : IsTranslation names f text) → IsOnlyTranslation names f text t }
 
     // Status 7 comes only where a count of faults rose, or stands at its end, 2^64 - 1, or the named file failed: of the
     // input only where it came to be asked, of the place for messages only where a message was asked for.
-    ensures fault { HasFaultCause (needs_of words.now) (MayRead words.now)
-        (world (F.contents files.old) (F.failed files.old) (S.left input.old) (S.faults input.old) (O.held out.old) (O.faults out.old))
-        (world (F.contents files.new) (F.failed files.new) (S.left input.new) (S.faults input.new) (O.held out.new) (O.faults out.new))
-        (E.faults err.old) (E.faults err.new) result.number }
-    ensures unheard { (contents : Contents) (rest : List ℕ) →
-        Tells (needs_of words.now) (MayRead words.now) (world (F.contents files.old) (F.failed files.old) (S.left input.old) (S.faults input.old) (O.held out.old) (O.faults out.old)) contents rest →
-        HasMessageCause (needs_of words.now) (MayRead words.now) (AnswersWith words.now contents rest)
-        (world (F.contents files.old) (F.failed files.old) (S.left input.old) (S.faults input.old) (O.held out.old) (O.faults out.old))
-        (world (F.contents files.new) (F.failed files.new) (S.left input.new) (S.faults input.new) (O.held out.new) (O.faults out.new))
-        (E.faults err.old) (E.faults err.new) result.number }
-
-    // After 7 the output has gained a prefix of what was asked for.
-    ensures partly { (contents : Contents) (rest : List ℕ) →
-        Tells (needs_of words.now) (MayRead words.now) (world (F.contents files.old) (F.failed files.old) (S.left input.old) (S.faults input.old) (O.held out.old) (O.faults out.old)) contents rest →
-        Partial (AnswersWith words.now contents rest)
-        (world (F.contents files.old) (F.failed files.old) (S.left input.old) (S.faults input.old) (O.held out.old) (O.faults out.old))
-        (world (F.contents files.new) (F.failed files.new) (S.left input.new) (S.faults input.new) (O.held out.new) (O.faults out.new))
-        result.number }
-
-    // Where no output is due, the output stays. Whether or not the outside tells what it holds, it stays where memory ran
-    // out and, but for a command that writes as it reads, where the input's count of faults rose.
-    ensures silent { (contents : Contents) (rest : List ℕ) →
-        Tells (needs_of words.now) (MayRead words.now) (world (F.contents files.old) (F.failed files.old) (S.left input.old) (S.faults input.old) (O.held out.old) (O.faults out.old)) contents rest →
-        NoOutputIsDue (AnswersWith words.now contents rest) → out.new ≡ out.old }
-    ensures nothing { result.number ≡ 8 → out.new ≡ out.old }
-    ensures unwritten { is_streaming (command_of words.now) ≡ false → S.faults input.old < S.faults input.new → out.new ≡ out.old }
-
-    // But for `monitor` the output is put whole, in one call at most; it is the output of what is asked for, and after 0
-    // and 1 it was put. `monitor` puts each line in one call.
-    ensures once { is_streaming (command_of words.now) ≡ false → IsPutOnce O.IsPut out.old out.new }
-    ensures written { (contents : Contents) (rest : List ℕ) →
-        Tells (needs_of words.now) (MayRead words.now) (world (F.contents files.old) (F.failed files.old) (S.left input.old) (S.faults input.old) (O.held out.old) (O.faults out.old)) contents rest →
-        is_streaming (command_of words.now) ≡ false → PutsReply O.IsPut (AnswersWith words.now contents rest) out.old out.new result.number }
-    ensures lines { IsTrue (is_streaming (command_of words.now)) → PutsLines O.IsPut out.old out.new }
-
-    // Where the input's count of faults rose, a command that writes as it reads has put what is due for the whole lines
-    // that were taken. Where the output's count rose, it failed at the output of one line: what is due for the lines
-    // before it was put, and a prefix of its own, and fewer than 4,097 bytes were taken past it. Such a command runs out of
-    // memory only before it takes a byte.
-    ensures streams { (contents : Contents) (rest : List ℕ) →
-        Tells (needs_of words.now) (MayRead words.now) (world (F.contents files.old) (F.failed files.old) (S.left input.old) (S.faults input.old) (O.held out.old) (O.faults out.old)) contents rest →
-        IfNeeded (is_streaming (command_of words.now)) (Streams (AnswersWith words.now contents) rest
-        (world (F.contents files.old) (F.failed files.old) (S.left input.old) (S.faults input.old) (O.held out.old) (O.faults out.old))
-        (world (F.contents files.new) (F.failed files.new) (S.left input.new) (S.faults input.new) (O.held out.new) (O.faults out.new))) }
-    ensures served { IsTrue (is_streaming (command_of words.now)) → result.number ≡ 8 → input.new ≡ input.old }
+    ensures fault { let before = world (F.contents files.old) (F.failed files.old) (S.left input.old) (S.faults input.old) (O.held out.old) (O.faults out.old) in
+        let after = world (F.contents files.new) (F.failed files.new) (S.left input.new) (S.faults input.new) (O.held out.new) (O.faults out.new) in
+        HasFaultCause (task_of words.now) before after (E.faults err.old) (E.faults err.new) result.number }
 
     // Where a count of the files, the input or the output rose the status is 7; where that of the place for messages
     // rose it is 7 or 8.
-    ensures counts { CountsStand
-        (world (F.contents files.old) (F.failed files.old) (S.left input.old) (S.faults input.old) (O.held out.old) (O.faults out.old))
-        (world (F.contents files.new) (F.failed files.new) (S.left input.new) (S.faults input.new) (O.held out.new) (O.faults out.new))
-        result.number }
-    ensures messages { result.number ≢ 7 → result.number ≢ 8 → E.faults err.new ≡ E.faults err.old }
+    ensures counts { let before = world (F.contents files.old) (F.failed files.old) (S.left input.old) (S.faults input.old) (O.held out.old) (O.faults out.old) in
+        let after = world (F.contents files.new) (F.failed files.new) (S.left input.new) (S.faults input.new) (O.held out.new) (O.faults out.new) in
+        CountsStand before after (E.faults err.old) (E.faults err.new) result.number }
 
-    // The run has an ending, whose status it answers and whose message it puts in one call, or makes none where there is
-    // no message. Where that call fails a prefix was put, and the status is 7, or 8 for want of memory.
-    ensures ends { (ending : Ending) × Finishes ending (E.held err.old) (E.faults err.old) (E.held err.new) (E.faults err.new) result.number
-        × Asks E.IsPut (message_of ending) err.old err.new }
+    // After 7 the output has gained a prefix of what was asked for.
+    ensures partly { let before = world (F.contents files.old) (F.failed files.old) (S.left input.old) (S.faults input.old) (O.held out.old) (O.faults out.old) in
+        let after = world (F.contents files.new) (F.failed files.new) (S.left input.new) (S.faults input.new) (O.held out.new) (O.faults out.new) in
+        IsPartial (task_of words.now) before after result.number }
 
-    // After 7 and 8 the message of the status was put, or, where the place for messages failed, a prefix of one message;
-    // after 0 and 1 none was put.
-    ensures message { LeavesMessage (E.held err.old) (E.held err.new) (E.faults err.old) (E.faults err.new) result.number }
-    ensures quiet { result.number < 2 → err.new ≡ err.old }
+    // The output isn't asked where nothing is due, nor where memory ran out. What is due is put whole in one call, or by a
+    // command that writes as it reads in one call a line; over an output that tells what it holds, `answers` says which lines.
+    ensures writes { let before = world (F.contents files.old) (F.failed files.old) (S.left input.old) (S.faults input.old) (O.held out.old) (O.faults out.old) in
+        let after = world (F.contents files.new) (F.failed files.new) (S.left input.new) (S.faults input.new) (O.held out.new) (O.faults out.new) in
+        Writes O.IsPut (task_of words.now) before after out.old out.new result.number }
 
-    // Words that aren't three, a command and a dialect first, are refused whatever memory there is: the status is 2, or 7.
+    // Where the input failed, a command that writes as it reads has put what is due for the whole lines that were taken.
+    // Where the output failed, it failed at one line, and fewer than 4,097 bytes were taken past what this line needs.
+    ensures streams { let before = world (F.contents files.old) (F.failed files.old) (S.left input.old) (S.faults input.old) (O.held out.old) (O.faults out.old) in
+        let after = world (F.contents files.new) (F.failed files.new) (S.left input.new) (S.faults input.new) (O.held out.new) (O.faults out.new) in
+        IsStreamed (task_of words.now) before after }
+
+    // The message of the run's ending is put in one call; the status is the ending's, or 7 where that call failed. After 0
+    // and 1 none is put.
+    ensures messages { PutsMessages E.IsPut err.old err.new (E.held err.old) (E.held err.new) (E.faults err.old) (E.faults err.new) result.number }
+
+    // Words that are none of the listed forms are refused whatever memory there is: the status is 2, or 7.
     ensures usage { command_of words.now ≡ Command.Usage → (result.number ≡ 2) ⊎ (result.number ≡ 7) }
 
-    // The names that failed gain the named file at most, and the files stay where the words name none. The input stays
-    // where the command reads none, and where the words, the formula or its class counts are refused.
-    ensures gains { Gains (file_of (command_of words.now) words.now) (F.failed files.old) (F.failed files.new) }
-    ensures unopened { file_of (command_of words.now) words.now ≡ None → files.new ≡ files.old }
-    ensures early { IsUnread result.number → ¬ MayRead words.now }
-    ensures unread { ¬ MayRead words.now → input.new ≡ input.old }
+    // The names that failed gain the named file at most, and where no file is named the files stay as they are.
+    ensures files { let before = world (F.contents files.old) (F.failed files.old) (S.left input.old) (S.faults input.old) (O.held out.old) (O.faults out.old) in
+        let after = world (F.contents files.new) (F.failed files.new) (S.left input.new) (S.faults input.new) (O.held out.new) (O.faults out.new) in
+        KeepsFiles (task_of words.now) before after files.old files.new }
 
-    // After 0 and 1 a command that reads the input has read it to its end.
-    ensures whole { IsTrue (reads_input (command_of words.now)) → result.number < 2 →
-        (rest : List ℕ) → S.left input.old ≡ Some rest → S.left input.new ≡ Some [] }
+    // The input is not asked by a command that reads none, nor where the words, the formula or file, its class counts or
+    // the keeping of what it assumes are refused; nor again after it failed. A command that writes as it reads doesn't end
+    // for want of memory once it has asked.
+    ensures reads { let before = world (F.contents files.old) (F.failed files.old) (S.left input.old) (S.faults input.old) (O.held out.old) (O.faults out.old) in
+        Reads S.faults S.IsTaken (task_of words.now) before input.old input.new result.number }
+
+    // After an answer a command that reads the input has read it to its end, or, where it stops at its goal, to the line that
+    // met it.
+    ensures far { let before = world (F.contents files.old) (F.failed files.old) (S.left input.old) (S.faults input.old) (O.held out.old) (O.faults out.old) in
+        let after = world (F.contents files.new) (F.failed files.new) (S.left input.new) (S.faults input.new) (O.held out.new) (O.faults out.new) in
+        IsReadSoFar (task_of words.now) before after result.number }
 {
     let ending = perform(alloc, words, files, input, out);
     finish(ending, err)

@@ -1,6 +1,0 @@
-use Rattle.std.proofs.Common.{◌≡◌, ◌++◌}
-use Rattle.bes_suite.specs.AutomatonText.{name_list}
-use Rattle.bes_suite.proofs.automaton_text.push_names.Given as goal
-
-abbrev pub invariant-loop-i : goal.invariant-loop-i
-invariant-loop-i l = l.text ≡ l.fn.text ++ name_list l.names.names l.i

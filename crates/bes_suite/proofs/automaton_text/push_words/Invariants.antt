@@ -1,6 +1,0 @@
-use Rattle.std.proofs.Common.{◌≡◌, ◌++◌}
-use Rattle.bes_suite.specs.AutomatonText.{word_lines}
-use Rattle.bes_suite.proofs.automaton_text.push_words.Given as goal
-
-abbrev pub invariant-loop-i : goal.invariant-loop-i
-invariant-loop-i l = l.text ≡ l.fn.text ++ word_lines l.props l.words l.i

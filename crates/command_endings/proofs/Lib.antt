@@ -1,0 +1,5 @@
+pub mod FormulaLemmas
+pub mod CallLemmas
+pub mod Performing
+pub mod WritingLemmas
+pub mod ReadingLemmas

@@ -1,0 +1,11 @@
+pub mod Endings
+pub mod Replies
+pub mod Runs
+pub mod Calls
+pub mod Worlds
+pub mod Streams
+pub mod Far
+pub mod Tasks
+pub mod Writing
+pub mod Reading
+pub mod Formulas

@@ -1,0 +1,4 @@
+pub mod LetterLemmas
+pub mod TraceLemmas
+pub mod StreamLemmas
+pub mod EventLines

@@ -1,0 +1,2 @@
+pub mod Monitoring
+pub mod OpenedMonitor

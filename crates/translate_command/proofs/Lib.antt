@@ -1,0 +1,4 @@
+pub mod TextLemmas
+pub mod TextFacts
+pub mod TranslationLemmas
+pub mod OneTranslation

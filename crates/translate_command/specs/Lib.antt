@@ -1,0 +1,2 @@
+pub mod AutomatonText
+pub mod Translation
