@@ -23,7 +23,7 @@ use Rattle.legality.specs.Violation.{TellsViolated}
 use Rattle.legality.specs.Legal.{claim_of, keeping, TellsLegal, ArePlayable}
 use Rattle.legality.proofs.LegalLemmas.{tells_last, closed_of, watch_told, none_legal, none_playable}
 use Rattle.arena.specs.Told.{TellsDuty}
-use Rattle.arena.specs.Building.{claim_where, FitsWhere, aims_of, TellsGoal}
+use Rattle.arena.specs.Building.{claim_where, FitsWhere, aims_of, TellsGoal, EachHistoryGoesOn}
 use Rattle.arena.proofs.LeftLemmas.{live_low, left_is_arena}
 use Rattle.arena.proofs.JoinLemmas.{duty_told, kinds_told}
 
@@ -164,3 +164,16 @@ none_playable_where p s o e = subst (λ q. ArePlayable p (claim_where s q)) (sym
 pub given_where : (s : Diagrams) (o : Option Table) → is_some o ≡ is_given (claim_where s o)
 given_where s None = refl
 given_where s (Some t) = refl
+
+-- no history meets a goal that is always false
+never_met : (h : Word) → (¬ IsViolated None h) × (false ≡ true) → ⊥
+never_met h (calm, met) = cc
+
+-- each legal history goes on, since it does before such a goal
+pub each_goes_on : (p : Partition) (goal : Claim) (assumed duty : Option Claim) → ArePlayable p assumed → EachHistoryGoesOn (record { parts = p; goal = goal; assumed = assumed; duty = duty })
+each_goes_on p goal assumed duty all =
+    let played = all (λ w. false) None in
+    record {
+      decision = λ h o l. played.decides h (o, l) (never_met h);
+      round = λ h x y o l d j. played.goes_on h (o, l) (never_met h) x y d j;
+    }

@@ -5,3 +5,4 @@ pub mod LeftOfLemmas
 pub mod BuildingLemmas
 pub mod CountLemmas
 pub mod EvenLemmas
+pub mod LastingArenas

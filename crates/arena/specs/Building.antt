@@ -1,12 +1,12 @@
 -- What is built of the automata of a specification.
 use Rattle.std.specs.Prelude.{◌≡◌, ◌<◌, ◌+◌, ℕ, false, true, Option, Some, None}
-use Rattle.forms.specs.Word.{Claim, IsOver}
+use Rattle.forms.specs.Word.{Word, Claim, IsOver}
 use Rattle.diagrams.specs.Eval.{Diagrams}
 use Rattle.automata.specs.Moves.{Moves}
 use Rattle.automata.specs.Table.{Table, size_of, Fits}
 use Rattle.products.specs.Watch.{Tells}
-use Rattle.game.specs.Board.{Partition, width}
-use Rattle.game.specs.Histories.{Aims, IsLegalHistory, histories}
+use Rattle.game.specs.Board.{Partition, width, IsOutput, IsRound}
+use Rattle.game.specs.Histories.{Aims, IsHistory, IsLegalHistory, IsLegalRound, IsDecisionAt, histories}
 use Rattle.game.specs.Playable.{IsPlayable}
 use Rattle.legality.specs.Legal.{claim_of}
 
@@ -46,3 +46,9 @@ duty_count (Some t) = size_of t + 1
 -- first a legal input; and each decision has with each output a legal round.
 abbrev pub GoesOnLegally : Aims → Type 0
 GoesOnLegally s = IsPlayable (histories s) (λ h. IsOver (width s.parts) h × IsLegalHistory s h)
+
+-- Each legal history goes on, also one that meets the goal. It has a decision, agent first the one there is and environment first
+-- a legal input; and each decision has with each output a legal round.
+pub record EachHistoryGoesOn (s : Aims) : Type 0 where
+  pub decision : (h : Word) → IsHistory s h → IsLegalHistory s h → (x : ℕ) × IsDecisionAt s h x
+  pub round : (h : Word) (x y : ℕ) → IsHistory s h → IsLegalHistory s h → IsDecisionAt s h x → IsOutput s.parts y → (a : ℕ) × IsRound s.parts x y a × IsLegalRound s h a

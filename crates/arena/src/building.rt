@@ -12,7 +12,7 @@ ghost use Rattle.game.specs.Kinds.{TellsKinds};
 ghost use Rattle.layers.specs.Ranked.{IsPlayableArena, GoesByInput};
 ghost use Rattle.arena.specs.Left.{locations_of, FitsArena};
 ghost use Rattle.legality.specs.Legal.{claim_of, keeping, TellsLegal, IsRightFault, ArePlayable};
-ghost use Rattle.arena.specs.Building.{claim_where, FitsWhere, BeginsWhere, assumed_count, duty_count, aims_of, TellsGoal, GoesOnLegally};
+ghost use Rattle.arena.specs.Building.{claim_where, FitsWhere, BeginsWhere, assumed_count, duty_count, aims_of, TellsGoal, GoesOnLegally, EachHistoryGoesOn};
 
 use crate::locations::{Arena, left_of};
 use automata::Automaton;
@@ -133,6 +133,7 @@ pub fn build(
         IsPlayableArena partition (is_given (claim_where store.old (option_copied duty.entry))) (locations_of store.new arena)) }
     ensures even { IfOk result (λ arena. GoesByInput partition (locations_of store.new arena)) }
     ensures rounds { OnOk result (GoesOnLegally (aims_of store.old partition goal.now (option_copied keep.entry) (option_copied duty.entry))) }
+    ensures goes_on { OnOk result (EachHistoryGoesOn (aims_of store.old partition goal.now (option_copied keep.entry) (option_copied duty.entry))) }
     ensures arena { IfOk result (λ arena.
         IsArenaOf (aims_of store.old partition goal.now (option_copied keep.entry) (option_copied duty.entry)) (locations_of store.new arena)) }
     ensures few { IfOk result (λ arena.

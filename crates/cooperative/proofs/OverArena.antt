@@ -8,9 +8,12 @@ use Rattle.attractor.specs.Graph.{number_at}
 use Rattle.attractor.specs.Rows.{is_first_at}
 use Rattle.forms.specs.declared.partition.Partition.{Partition}
 use Rattle.game.specs.Board.{width}
-use Rattle.game.specs.Winning.{ReachesWithin, FailsDutyWithin}
-use Rattle.game.specs.Histories.{Aims, histories, is_given}
-use Rattle.game.specs.Arena.{Locations, locations, IsArenaOf}
+use Rattle.forms.specs.Word.{Word, IsOver}
+use Rattle.game.specs.Winning.{ReachesWithin, CanMeetWithin, FailsDutyWithin}
+use Rattle.game.specs.Histories.{Aims, histories, is_given, IsLegalHistory}
+use Rattle.game.proofs.HistoryLemmas.{done_or_not}
+use Rattle.game.proofs.Hope.{hope_is_meeting, out_of_reach_is_never_met}
+use Rattle.game.specs.Arena.{Locations, locations, LeadsTo, IsArenaOf}
 use Rattle.game.specs.Numbers.{IsLeastOrNone}
 use Rattle.layers.specs.Ranked.{AreRanks, AreDistances, GoesByInput, IsPlayableArena}
 use Rattle.layers.specs.Distances.{AreWon}
@@ -21,13 +24,13 @@ use Rattle.layers.specs.ArenaRows as table
 use Rattle.layers.proofs.ArenaLemmas.{arena_rows, arena_won}
 use Rattle.layers.proofs.DistanceLemmas.{can_hope, hope_can}
 use Rattle.layers.proofs.MoreBounds.{distance_most, decision_hope_few, loss_less}
-use Rattle.layers.proofs.Duty.{holds_all}
-use Rattle.layers.proofs.HistoryLemmas.{leads_within, history_distances, history_meets, location_meets, history_losses}
+use Rattle.layers.proofs.Duty.{holds_along, can_keep, decision_loss_few}
+use Rattle.layers.proofs.HistoryLemmas.{leads_within, history_distances, history_meets, location_meets, history_losses, history_keeps, decision_leads}
 use Rattle.arena.specs.Left.{ArenaTable, FitsArena, locations_of}
 use Rattle.cooperative.specs.declared.loss.Loss.{Loss}
 use Rattle.cooperative.specs.declared.loss.Loss.TheVariants.{Held, In}
-use Rattle.cooperative.specs.Hoped.{MeetsByDistance, HistoriesMeet}
-use Rattle.cooperative.specs.Lost.{loss_of, loss_where, loss_at, AreListed, IsLoss, CanBeKept, AreKeptOrLost, AreHistoryLosses}
+use Rattle.cooperative.specs.Hoped.{MeetsByDistance, HistoriesMeet, HopeIsPossibility}
+use Rattle.cooperative.specs.Lost.{loss_of, loss_where, loss_at, AreListed, IsLoss, AreKeptOrLost, AreHistoryLosses}
 
 -- ranks of an arena are those of its rows
 pub ranks_under : (s : Diagrams) (t : ArenaTable) (p : Partition) (rows : List Id) (goals : List Bool) (made ranks : List (Option ℕ)) → p ≡ t.partition → rows ≡ t.rows → goals ≡ t.goals → made ≡ ranks
@@ -126,6 +129,10 @@ loss_right : (P : ℕ → Type 0) (v : Option ℕ) → IsLeastOrNone P v → IsL
 loss_right P None f = f
 loss_right P (Some n) f = f
 
+held_none : (v : Option ℕ) → loss_of v ≡ Held → v ≡ None
+held_none None e = refl
+held_none (Some k) e = absurd (cc)
+
 loss_in : (v : Option ℕ) (n : ℕ) → loss_of v ≡ In n → v ≡ Some n
 loss_in None n e = absurd (cc)
 loss_in (Some k) n e = let z : k ≡ n = cc in ap (λ i. Some i) z
@@ -150,7 +157,8 @@ kept_or_lost p duty m ranks distances numbers losses c l = record {
   below = λ at n h e.
       let q = where_some (number_at ranks at) (number_at distances at) (number_at numbers at) (In n) (sym (l.each at h) ∙ e) in
       loss_less p duty m (number_at numbers) c at n h (loss_in (number_at numbers at) n q.1);
-  holds = λ move keeps at n h e. holds_all (locations p duty m) (λ i. i < m.size) move (λ i a x k g. g) (λ i x k f d. keeps i x k f d) n at h (right at Held h e);
+  kept = λ at x h e d. can_keep p duty m (number_at numbers) c at x h (right at Held h e) d;
+  holds = λ move at n h e along. holds_along (locations p duty m) move n at (right at Held h e) along;
 }
   where
     right : (at : ℕ) (loss : Loss) → at < m.size → loss_at losses at ≡ Some loss → IsLoss (λ n. FailsDutyWithin (locations p duty m) n at) loss
@@ -158,14 +166,48 @@ kept_or_lost p duty m ranks distances numbers losses c l = record {
         let q = where_some (number_at ranks at) (number_at distances at) (number_at numbers at) loss (sym (l.each at h) ∙ e) in
         subst (IsLoss (λ n. FailsDutyWithin (locations p duty m) n at)) q.1 (loss_right (λ n. FailsDutyWithin (locations p duty m) n at) (number_at numbers at) (c at h))
 
+-- a location of which something is said is out of reach
+said_none : (ranks distances numbers : List (Option ℕ)) (losses : List (Option Loss)) (size : ℕ) → AreListed ranks distances numbers losses size
+    → (at : ℕ) (loss : Loss) → at < size → loss_at losses at ≡ Some loss → (number_at distances at ≡ None) × (loss_of (number_at numbers at) ≡ loss)
+said_none ranks distances numbers losses size l at loss k i = where_some (number_at ranks at) (number_at distances at) (number_at numbers at) loss (sym (l.each at k) ∙ i)
+
+module _ (s : Aims) (duty : Bool) (m : Locations) (arena : IsArenaOf s m) (ranks distances numbers : List (Option ℕ)) (losses : List (Option Loss))
+    (meets : MeetsByDistance s.parts duty m (number_at distances))
+    (c : (at : ℕ) → at < m.size → IsLeastOrNone (λ n. FailsDutyWithin (locations s.parts (is_given s.duty) m) n at) (number_at numbers at))
+    (l : AreListed ranks distances numbers losses m.size) where
+  never_there : (h : Word) (at : ℕ) (loss : Loss) → LeadsTo (width s.parts) m h at → loss_at losses at ≡ Some loss → (k : ℕ) → ¬ CanMeetWithin (locations s.parts (is_given s.duty) m) k at
+  never_there h at loss x i = let k = leads_within s m arena h at x in meets.never at k (said_none ranks distances numbers losses m.size l at loss k i).0
+
+  right_there : (h : Word) (at : ℕ) (loss : Loss) → LeadsTo (width s.parts) m h at → loss_at losses at ≡ Some loss → IsLoss (λ n. FailsDutyWithin (histories s) n h) loss
+  right_there h at loss x i =
+      let k = leads_within s m arena h at x in
+      subst (IsLoss (λ n. FailsDutyWithin (histories s) n h)) (said_none ranks distances numbers losses m.size l at loss k i).1
+      (loss_right (λ n. FailsDutyWithin (histories s) n h) (number_at numbers at) (history_losses s m arena (number_at numbers at) h at x (never_there h at loss x i) (c at k)))
+
+  losses_there : AreHistoryLosses s m losses
+  losses_there = record {
+    right = right_there;
+    kept = λ h at x leads i d.
+        let k = leads_within s m arena h at leads in
+        let never = never_there h at Held leads i in
+        history_keeps s m arena h at x leads never
+        (can_keep s.parts (is_given s.duty) m (number_at numbers) c at x k
+        (subst (λ v. IsLeastOrNone (λ n. FailsDutyWithin (locations s.parts (is_given s.duty) m) n at) v) (held_none (number_at numbers at) (said_none ranks distances numbers losses m.size l at Held k i).1) (c at k))
+        (decision_leads s m arena h at x leads never d));
+    holds = λ move h at n leads i along. holds_along (histories s) move n h (right_there h at Held leads i) along;
+  }
+
 -- and are those of histories
 pub losses_of_histories : (s : Aims) (p : Partition) (duty : Bool) (m : Locations) (ranks distances numbers : List (Option ℕ)) (losses : List (Option Loss)) → s.parts ≡ p → IsArenaOf s m
     → MeetsByDistance p duty m (number_at distances) → ((at : ℕ) → at < m.size → IsLeastOrNone (λ n. FailsDutyWithin (locations p duty m) n at) (number_at numbers at))
     → AreListed ranks distances numbers losses m.size → AreHistoryLosses s m losses
-losses_of_histories s p duty m ranks distances numbers losses e arena meets c l h at loss x i =
-    let z = subst (λ q. MeetsByDistance q duty m (number_at distances)) (sym e) meets in
-    let u = subst (λ q. (at : ℕ) → at < m.size → IsLeastOrNone (λ n. FailsDutyWithin (locations q duty m) n at) (number_at numbers at)) (sym e) c in
-    let k = leads_within s m arena h at x in
-    let q = where_some (number_at ranks at) (number_at distances at) (number_at numbers at) loss (sym (l.each at k) ∙ i) in
-    subst (IsLoss (λ n. FailsDutyWithin (histories s) n h)) q.1
-    (loss_right (λ n. FailsDutyWithin (histories s) n h) (number_at numbers at) (history_losses s m arena (number_at numbers at) h at x (z.never at k q.0) (u at k)))
+losses_of_histories s p duty m ranks distances numbers losses e arena meets c l =
+    losses_there s duty m arena ranks distances numbers losses (subst (λ q. MeetsByDistance q duty m (number_at distances)) (sym e) meets)
+    (subst (λ q. (at : ℕ) → at < m.size → IsLeastOrNone (λ n. FailsDutyWithin (locations q duty m) n at) (number_at numbers at)) (sym e) c) l
+
+-- hope is possibility on legal histories
+pub hope_is_possibility : HopeIsPossibility
+hope_is_possibility s g = record {
+  met = λ h n o l r. hope_is_meeting (histories s) (λ h. IsOver (width s.parts) h × IsLegalHistory s h) g (λ h i. done_or_not s h) n h (o, l) r;
+  never = λ h o l f n. out_of_reach_is_never_met (histories s) (λ h. IsOver (width s.parts) h × IsLegalHistory s h) g (λ h i. done_or_not s h) h (o, l) f n;
+}

@@ -1,11 +1,12 @@
 -- Where there is hope the goal can be met.
 use Rattle.std.specs.Prelude.{◌≡◌, ◌<◌, ℕ, Bool, Option, Some, None}
-use Rattle.forms.specs.Word.{Word}
+use Rattle.forms.specs.Word.{Word, IsOver}
 use Rattle.forms.specs.declared.partition.Partition.{Partition}
 use Rattle.game.specs.Board.{width}
-use Rattle.game.specs.Winning.{CanMeetWithin}
-use Rattle.game.specs.Histories.{Aims, histories}
+use Rattle.game.specs.Winning.{ReachesWithin, CanMeetWithin}
+use Rattle.game.specs.Histories.{Aims, histories, IsLegalHistory}
 use Rattle.game.specs.Arena.{Locations, locations, LeadsTo}
+use Rattle.arena.specs.Building.{GoesOnLegally}
 
 -- from a location some legal rounds meet the goal exactly where it has a distance, and no more of them than that
 pub record MeetsByDistance (s : Partition) (duty : Bool) (m : Locations) (distance : ℕ → Option ℕ) : Type 0 where
@@ -16,3 +17,13 @@ pub record MeetsByDistance (s : Partition) (duty : Bool) (m : Locations) (distan
 pub record HistoriesMeet (s : Aims) (m : Locations) (distance : ℕ → Option ℕ) : Type 0 where
   pub met : (h : Word) (at n : ℕ) → LeadsTo (width s.parts) m h at → distance at ≡ Some n → CanMeetWithin (histories s) n h
   pub never : (h : Word) (at : ℕ) → LeadsTo (width s.parts) m h at → distance at ≡ None → (n : ℕ) → ¬ CanMeetWithin (histories s) n h
+
+-- From each legal history, past a goal too, what can be hoped for within so many rounds as many legal rounds can meet; and where
+-- no number of rounds leaves hope, no legal rounds meet the goal.
+pub record LegalHistoriesMeet (s : Aims) : Type 0 where
+  pub met : (h : Word) (n : ℕ) → IsOver (width s.parts) h → IsLegalHistory s h → ReachesWithin (histories s) n h → CanMeetWithin (histories s) n h
+  pub never : (h : Word) → IsOver (width s.parts) h → IsLegalHistory s h → ((k : ℕ) → ¬ ReachesWithin (histories s) k h) → (n : ℕ) → ¬ CanMeetWithin (histories s) n h
+
+-- so it is of each specification whose game can be played on legal histories
+abbrev pub HopeIsPossibility : Type 0
+HopeIsPossibility = (s : Aims) → GoesOnLegally s → LegalHistoriesMeet s

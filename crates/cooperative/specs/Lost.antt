@@ -4,10 +4,12 @@ use Rattle.attractor.specs.Graph.{number_at}
 use Rattle.forms.specs.Word.{Word}
 use Rattle.forms.specs.declared.partition.Partition.{Partition}
 use Rattle.game.specs.Board.{IsLeastNumber, width}
-use Rattle.game.specs.Winning.{FailsDutyWithin, KeepsDuty}
+use Rattle.game.specs.Winning.{FailsDutyWithin}
+use Rattle.game.specs.Marks.{CanKeepDuty}
 use Rattle.game.specs.Following.{HoldsDutyWithin}
-use Rattle.game.specs.Histories.{Aims, histories}
+use Rattle.game.specs.Histories.{Aims, histories, IsDecisionAt}
 use Rattle.game.specs.Arena.{Locations, locations, LeadsTo, IsDecisionThere}
+use Rattle.layers.specs.Keeping.{KeepsDutyAlong}
 use Rattle.cooperative.specs.declared.loss.Loss.{Loss}
 use Rattle.cooperative.specs.declared.loss.Loss.TheVariants.{Held, In}
 
@@ -36,22 +38,21 @@ abbrev pub IsLoss : (ℕ → Type 0) → Loss → Type 0
 IsLoss P Held = (k : ℕ) → ¬ P k
 IsLoss P (In n) = IsLeastNumber P n
 
--- the duty can't be broken within any number of rounds
-abbrev pub CanBeKept : Partition → Bool → Locations → ℕ → Type 0
-CanBeKept s duty m at = (k : ℕ) → ¬ FailsDutyWithin (locations s duty m) k at
-
--- Nothing is said exactly where there is a rank or a distance. Elsewhere the duty is kept or lost as is said; numbers are below
--- the number of locations; and moves after which the duty can still be kept keep it for every number of rounds.
+-- Nothing is said exactly where there is a rank or a distance. Elsewhere the duty is kept or lost as is said, and numbers are
+-- below the number of locations. Where it is held, each decision has an output after which it can still be kept, and moves after
+-- which it can, along the plays that follow them, keep it for as many rounds.
 pub record AreKeptOrLost (s : Partition) (duty : Bool) (m : Locations) (rank distance : ℕ → Option ℕ) (losses : List (Option Loss)) : Type 0 where
   pub size : length losses ≡ m.size
   pub none : (at : ℕ) → at < m.size → (loss_at losses at ≡ None) ↔ (IsSome (rank at) ⊎ IsSome (distance at))
   pub right : (at : ℕ) (loss : Loss) → at < m.size → loss_at losses at ≡ Some loss → IsLoss (λ n. FailsDutyWithin (locations s duty m) n at) loss
   pub below : (at n : ℕ) → at < m.size → loss_at losses at ≡ Some (In n) → n < m.size
-  pub holds : (move : ℕ → ℕ → ℕ)
-      → ((at x : ℕ) → at < m.size → CanBeKept s duty m at → IsDecisionThere s m at x → KeepsDuty (locations s duty m) at x (move at x))
-      → (at n : ℕ) → at < m.size → loss_at losses at ≡ Some Held → HoldsDutyWithin (locations s duty m) move n at
+  pub kept : (at x : ℕ) → at < m.size → loss_at losses at ≡ Some Held → IsDecisionThere s m at x → CanKeepDuty (locations s duty m) at x
+  pub holds : (move : ℕ → ℕ → ℕ) (at n : ℕ) → at < m.size → loss_at losses at ≡ Some Held → KeepsDutyAlong (locations s duty m) move n at
+      → HoldsDutyWithin (locations s duty m) move n at
 
--- each history that leads to a location keeps or loses the duty as is said there
-abbrev pub AreHistoryLosses : Aims → Locations → List (Option Loss) → Type 0
-AreHistoryLosses s m losses = (h : Word) (at : ℕ) (loss : Loss) → LeadsTo (width s.parts) m h at → loss_at losses at ≡ Some loss
-    → IsLoss (λ n. FailsDutyWithin (histories s) n h) loss
+-- the same of each history that leads to a location, by what is said there
+pub record AreHistoryLosses (s : Aims) (m : Locations) (losses : List (Option Loss)) : Type 0 where
+  pub right : (h : Word) (at : ℕ) (loss : Loss) → LeadsTo (width s.parts) m h at → loss_at losses at ≡ Some loss → IsLoss (λ n. FailsDutyWithin (histories s) n h) loss
+  pub kept : (h : Word) (at x : ℕ) → LeadsTo (width s.parts) m h at → loss_at losses at ≡ Some Held → IsDecisionAt s h x → CanKeepDuty (histories s) h x
+  pub holds : (move : Word → ℕ → ℕ) (h : Word) (at n : ℕ) → LeadsTo (width s.parts) m h at → loss_at losses at ≡ Some Held → KeepsDutyAlong (histories s) move n h
+      → HoldsDutyWithin (histories s) move n h

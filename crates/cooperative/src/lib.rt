@@ -6,11 +6,13 @@
 #![tactic(auto)]
 
 mod hoping;
+mod laws;
 mod losing;
 mod loss;
 mod numbers;
 mod replacing;
 
 pub use hoping::distances;
+pub use laws::laws_of_hope;
 pub use losing::losses;
 pub use loss::{Loss, Losses};

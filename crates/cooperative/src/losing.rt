@@ -7,6 +7,7 @@ ghost use Rattle.game.specs.Histories.{Aims};
 ghost use Rattle.game.specs.Arena.{locations, IsArenaOf};
 ghost use Rattle.game.specs.Numbers.{IsLeastOrNone};
 ghost use Rattle.layers.specs.Ranked.{AreRanks, AreDistances, GoesByInput, IsPlayableArena};
+ghost use Rattle.layers.specs.HistoryNumbers.{AreBreaksFew};
 ghost use Rattle.layers.specs.ArenaRows.{AreArenaRows};
 ghost use Rattle.layers.specs.ArenaRows as table;
 ghost use Rattle.arena.specs.Left.{FitsArena, locations_of};
@@ -83,8 +84,9 @@ fn listed(
 /// For each location from which the goal is out of reach whether the agent can keep the duty for good, or within how many
 /// rounds the environment can break it. `None` stands exactly where there is a rank or a distance.
 ///
-/// `losses` says so of the board of locations, and `histories` of each history that leads to one. Moves after which the duty
-/// can still be kept keep it for every number of rounds.
+/// `losses` says so of the board of locations, and `histories` of each history that leads to one. Where the duty is held, each
+/// decision has an output after which it can still be kept, and moves after which it can keep it. A duty that is lost from a
+/// decision is lost within as many rounds as there are locations.
 pub fn losses(
     alloc: Global,
     store: &mut Store,
@@ -105,6 +107,7 @@ pub fn losses(
         (number_at ranks.now) (number_at distances.now) losses) }
     ensures histories { (s : Aims) → s.parts ≡ arena.now.partition → IsArenaOf s (locations_of store.old arena.now)
         → IfOk result (λ losses. AreHistoryLosses s (locations_of store.old arena.now) losses) }
+    ensures decisions { IfOk result (λ losses. AreBreaksFew arena.now.partition arena.now.has_duty (locations_of store.old arena.now)) }
 {
     prove!(store.props() <= 32);
     prove!(arena.size() < 4294967295);

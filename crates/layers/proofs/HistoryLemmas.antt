@@ -5,13 +5,14 @@ use Rattle.forms.specs.Word.{Word}
 use Rattle.game.specs.Board.{width}
 use Rattle.game.specs.Winning.{WinsWithin, ReachesWithin, CanMeetWithin, FailsDutyWithin}
 use Rattle.game.specs.Following.{RefutesWithin}
-use Rattle.game.specs.Histories.{Aims, histories, is_given}
-use Rattle.game.specs.Arena.{Locations, locations, location_from, LeadsTo, IsArenaOf}
+use Rattle.game.specs.Histories.{Aims, histories, is_given, IsDecisionAt}
+use Rattle.game.specs.Arena.{Locations, locations, location_from, LeadsTo, IsArenaOf, IsDecisionThere}
 use Rattle.game.specs.Numbers.{IsLeastOrNone}
 use Rattle.game.proofs.ArenaLemmas.{arena_simulates}
 use Rattle.game.proofs.Simulation.{turned, wins, reaches, can_meet}
 use Rattle.game.proofs.SimulatedPlay.{refutes}
-use Rattle.game.proofs.SimulatedDuty.{fails_duty, never_there}
+use Rattle.game.specs.Marks.{CanKeepDuty}
+use Rattle.game.proofs.SimulatedDuty.{fails_duty, keeps_duty, never_there, never_after}
 use Rattle.layers.specs.Ranked.{AreRanks, AreDistances}
 use Rattle.layers.specs.HistoryNumbers.{AreHistoryRanks, AreHistoryDistances, answers_there, history_answers}
 
@@ -94,3 +95,17 @@ module _ (s : Aims) (m : Locations) (arena : IsArenaOf s m) where
       least_carried (λ n. FailsDutyWithin (locations s.parts (is_given s.duty) m) n at) (λ n. FailsDutyWithin (histories s) n h)
       (λ n w. fails_duty c b (λ k g. Leads g k) back n at h x never w)
       (λ n w. fails_duty b c Leads sim n h at x (never_there c b (λ k g. Leads g k) back at h x never) w) loss f
+
+  -- where the goal can't be met, a decision at a history is one at the location
+  pub decision_leads : (h : Word) (at x : ℕ) → LeadsTo (width s.parts) m h at → ((k : ℕ) → ¬ CanMeetWithin (locations s.parts (is_given s.duty) m) k at) → IsDecisionAt s h x → IsDecisionThere s.parts m at x
+  decision_leads h at x l never d =
+      let sim = arena_simulates s m arena in
+      (sim.decision h at l (λ e. never 0 ((sim.met h at l).0 e)) x).0 d
+
+  -- and an output that keeps the duty there keeps it at the history
+  pub history_keeps : (h : Word) (at x : ℕ) → LeadsTo (width s.parts) m h at → ((k : ℕ) → ¬ CanMeetWithin (locations s.parts (is_given s.duty) m) k at)
+      → CanKeepDuty (locations s.parts (is_given s.duty) m) at x → CanKeepDuty (histories s) h x
+  history_keeps h at x l never (y, o, keeps) =
+      let b = histories s in
+      let c = locations s.parts (is_given s.duty) m in
+      (y, o, keeps_duty c b (λ k g. Leads g k) (turned b c Leads (arena_simulates s m arena)) at h l (never 0) x (λ z a r legal. never_after c at never a r.letter legal) y keeps)

@@ -4,7 +4,6 @@ pub mod Least
 pub mod Bounds
 pub mod Meeting
 pub mod Refuting
-pub mod Duty
 pub mod MinimaxLemmas
 pub mod Choices
 pub mod LetterParts
@@ -15,9 +14,11 @@ pub mod DecisionLemmas
 pub mod HopeLemmas
 pub mod AnswerLemmas
 pub mod MoreBounds
+pub mod Duty
 pub mod ReplacedLemmas
 pub mod FoldedWins
 pub mod ArenaLemmas
 pub mod FoldedRows
 pub mod NarrowedLemmas
 pub mod HistoryLemmas
+pub mod SameLocations

@@ -3,7 +3,7 @@ use Rattle.std.specs.Prelude.{◌≡◌, ◌<◌, ◌≤◌, ℕ, Bool, true, Op
 use Rattle.forms.specs.Word.{Word}
 use Rattle.forms.specs.declared.partition.Partition.{Partition}
 use Rattle.game.specs.Board.{width, IsLeastNumber}
-use Rattle.game.specs.Winning.{WinsWithin, DecisionWinsWithin, IsWinnable, ReachesWithin, DecisionReachesWithin}
+use Rattle.game.specs.Winning.{WinsWithin, DecisionWinsWithin, IsWinnable, ReachesWithin, DecisionReachesWithin, DecisionFailsDutyWithin}
 use Rattle.game.specs.Histories.{Aims, histories}
 use Rattle.game.specs.Arena.{Locations, locations, location_from, LeadsTo, IsDecisionThere}
 use Rattle.game.specs.Numbers.{IsLeastOrNone}
@@ -37,3 +37,7 @@ AreWinsFew s duty m = (at x n : ℕ) → at < m.size → IsLeastNumber (λ k. De
 abbrev pub AreHopesFew : Partition → Bool → Locations → Type 0
 AreHopesFew s duty m = (at x n : ℕ) → at < m.size → ¬ IsWinnable (locations s duty m) at x
     → IsLeastNumber (λ k. DecisionReachesWithin (locations s duty m) k at x) n → n ≤ m.size
+
+-- and so is the least number within which the environment breaks the duty from a decision
+abbrev pub AreBreaksFew : Partition → Bool → Locations → Type 0
+AreBreaksFew s duty m = (at x n : ℕ) → at < m.size → IsLeastNumber (λ k. DecisionFailsDutyWithin (locations s duty m) k at x) n → n ≤ m.size

@@ -7,3 +7,4 @@ pub mod ArenaRows
 pub mod Laws
 pub mod Narrowed
 pub mod HistoryNumbers
+pub mod Keeping

@@ -18,7 +18,8 @@ use Rattle.automata.proofs.Letters.{spelt, spelt-less, spelt-truth}
 use Rattle.game.specs.Board.{Mover, Agent, Environment, Partition, width}
 use Rattle.legality.specs.Spared.{IsSpared, TellsSpared, IsRestrictedRow}
 use Rattle.game.proofs.Rounds.{input_small}
-use Rattle.legality.proofs.LetterParts.{spelt-first, spelt-same, first_part, spelt-letter, same_outside}
+use Rattle.layers.proofs.LetterParts.{spelt-first, spelt-same, first_part, spelt-letter}
+use Rattle.legality.proofs.LetterParts.{same_outside}
 
 -- a letter of its own is spared by a truth, or not
 spared_agent : (i o : ℕ) (s : Diagrams) (bad : Id) → i + o ≡ s.props → IsTruth s bad → DependsOn s bad (λ v. v < s.props) → TellsSpared (record { first = Agent; inputs = i; outputs = o }) s s bad bad

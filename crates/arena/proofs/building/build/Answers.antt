@@ -7,7 +7,7 @@ use Rattle.automata.proofs.Lasts.{fits_lasts}
 use Rattle.arena.specs.Building.{aims_of, claim_where}
 use Rattle.legality.specs.Legal.{claim_of}
 use Rattle.arena.specs.Left.{locations_of}
-use Rattle.arena.proofs.BuildingLemmas.{fits_where_last, keeps_five, told_kinds, least_live, built}
+use Rattle.arena.proofs.BuildingLemmas.{fits_where_last, keeps_five, told_kinds, least_live, built, each_goes_on}
 use Rattle.game.proofs.ArenaPlay.{arena_playable}
 use Rattle.arena.proofs.CountLemmas.{count_bound, legal_decided}
 use Rattle.arena.proofs.EvenLemmas.{arena_even}
@@ -103,3 +103,7 @@ returns-clause-even c =
 
 pub returns-clause-rounds : goal.returns-clause-rounds
 returns-clause-rounds c = c.in_ok-legal.ensures.playable (claim_of c.args.store.now c.args.goal.now) (claim_where c.args.store.now (option_copied c.args.duty))
+
+pub returns-clause-goes_on : goal.returns-clause-goes_on
+returns-clause-goes_on c =
+    each_goes_on c.args.partition (claim_of c.args.store.now c.args.goal.now) (claim_where c.args.store.now (option_copied c.args.keep)) (claim_where c.args.store.now (option_copied c.args.duty)) c.in_ok-legal.ensures.playable
