@@ -61,11 +61,22 @@ number-spelt a (suc n) v =
     head true x w y = let d : (2 * x + 1) * w ≡ x * (2 * w) + w = omega arith in omega (arith, d)
     head false x w y = let d : (2 * x + 0) * w ≡ x * (2 * w) = omega arith in omega (arith, d)
 
-all-spelt : (a : Assignment) (p : ℕ) → number_at a 0 p ≡ spelt a p
+-- the first propositions as one letter
+pub all-spelt : (a : Assignment) (p : ℕ) → number_at a 0 p ≡ spelt a p
 all-spelt a p =
     let e : p ≡ 0 + p = omega arith in
     let f : 0 * 2 ^ p + number_at a 0 p ≡ number_at a 0 p = omega arith in
     sym (ap (spelt a) e ∙ number-spelt a p 0 ∙ f)
+
+-- the letter that variables spell has exactly those that are true
+pub number-truth : (a : Assignment) (p v : ℕ) → v < p → letter_truth p (number_at a 0 p) v ≡ a v
+number-truth a p v l = ap (λ z. letter_truth p z v) (all-spelt a p) ∙ spelt-truth a p v l
+
+-- and the propositions of a letter spell it
+pub truth-number : (p x : ℕ) → x < 2 ^ p → number_at (letter_truth p x) 0 p ≡ x
+truth-number p x small =
+    let s = spelling 0 p x small in
+    once-number (letter_truth p x) s.0 p 0 (λ v h l. let k : v < p = omega (arith, l) in ap (λ z. letter_truth p z v) (sym s.1) ∙ number-truth s.0 p v k) ∙ s.1
 
 mixed-before : (bound : ℕ) (a c : Assignment) (v : ℕ) → v < bound → mixed bound a c v ≡ a v
 mixed-before bound a c v l = ap (λ z. if z then a v else c v) (lt-ltb v bound l)

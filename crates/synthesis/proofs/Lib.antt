@@ -1,0 +1,4 @@
+pub mod AlikeLemmas
+pub mod LastingLemmas
+pub mod FormulaLemmas
+pub mod OverLemmas
