@@ -1,7 +1,8 @@
 #!/usr/bin/env bash
 # Runs commands of the program with each of their allocations refused in turn, first that one alone, then with all after it.
 # A run must end with status 8, its message and no output. With one refusal alone it may also do without what was refused,
-# and then end just as it does with none. Where `monitor` ends with status 8 it must have left all its input, since it takes
+# and then end just as it does with none. Words that are none of the listed forms are refused whatever memory there is: each
+# such run must end just as it does with none refused. Where `monitor` ends with status 8 it must have left all its input, since it takes
 # memory before the first event only.
 #   PROGRAM=FILE   runs this program in place of crates/bes/out/bes, which is built first
 # (`rt try --fail-alloc N` refuses one allocation too, but builds the program anew for each N.)
@@ -56,8 +57,7 @@ fail() {
     "$(head -c 60 "$scratch/out")" "$(head -c 60 "$scratch/err")" "$((${#input} - ${#rest}))"
 }
 
-while IFS='|' read -r command dialect formula; do
-  words=("$command" "$dialect" "$formula")
+while IFS='|' read -r -a words; do
   before=$failed
   spared=0
   run 0 0
@@ -65,13 +65,13 @@ while IFS='|' read -r command dialect formula; do
   cp "$scratch/out" "$scratch/usual.out"
   cp "$scratch/err" "$scratch/usual.err"
   case $status in
-    0 | 1 | 3) passed=$((passed + 1)) ;;
+    0 | 1 | 2 | 3) passed=$((passed + 1)) ;;
     *) fail none ;;
   esac
   for ((n = 1; ; n++)); do
     run "$n" "$n"
     [ -s "$scratch/refusals" ] || break
-    if is_told; then
+    if is_told && [ "$usual" -ne 2 ]; then
       passed=$((passed + 1))
     elif is_as_ever; then
       passed=$((passed + 1))
@@ -80,7 +80,11 @@ while IFS='|' read -r command dialect formula; do
       fail "$n alone"
     fi
     run "$n" 999999999
-    if is_told; then passed=$((passed + 1)); else fail "$n and all after"; fi
+    if [ "$usual" -eq 2 ] && is_as_ever || [ "$usual" -ne 2 ] && is_told; then
+      passed=$((passed + 1))
+    else
+      fail "$n and all after"
+    fi
   done
   echo "${words[*]}: $((n - 1)) allocations, $spared of them done without, $((failed - before)) wrong ends"
 done <<'END'
@@ -101,6 +105,11 @@ translate|ldlf|[{request & !grant};true*] <(a?;b)*> true
 monitor|ltlf|G a
 monitor|ltlf|G(request -> F grant)
 monitor|ldlf|<(true;true)*> end
+judge|ltlf
+judge|mtl|a
+watch|ltlf|a
+monitor
+a|b|c|d
 END
 echo "$passed passed, $failed failed"
 [ "$failed" -eq 0 ]
