@@ -3,6 +3,9 @@ pub mod Meaning
 pub mod DependsLemmas
 pub mod Growth
 pub mod Table
+pub mod Counts
+pub mod Keys
+pub mod Sweeping
 pub mod Kept
 pub mod Expansion
 pub mod Literals

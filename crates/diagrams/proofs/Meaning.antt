@@ -1,15 +1,17 @@
 -- What the ids of a canonical store mean.
-use Rattle.std.proofs.Common.{◌≡◌, ℕ, zero, suc, ◌<◌, ◌≤◌, ◌+◌, if◌then◌else◌, refl, sym, ◌∙◌, ap, arith, IsSome, Option, Some, None, Result, IfOk}
+use Rattle.std.proofs.Common.{◌≡◌, ℕ, zero, suc, ◌<◌, ◌≤◌, ◌+◌, if◌then◌else◌, refl, sym, ◌∙◌, ap, arith, inl, inr, length, IsSome, Option, Some, None, Result, IfOk}
 use Rattle.std.specs.Prelude.{◌==◌}
+use Rattle.std.proofs.lemmas.Bool.{cases_lt}
 use Rattle.std.proofs.lemmas.Result.{IfOk-weaker}
 use Rattle.diagrams.specs.declared.top.Id.{Id}
 use Rattle.diagrams.specs.declared.top.Look.{Look}
 use Rattle.diagrams.specs.declared.top.Look.TheVariants.{Terminal, Node}
 use Rattle.diagrams.specs.Tree.{Tree, Constant, Branch, Assignment, IsAbove, IsReduced}
-use Rattle.diagrams.specs.Branch.{split_value}
+use Rattle.diagrams.specs.Branch.{split_value, HasTopValues}
 use Rattle.diagrams.specs.Eval.{Diagrams, top_of, tree_from, tree_to, limit, tree, eval, is_one, DependsOn, literal_value}
-use Rattle.diagrams.specs.Live.{IsLive, IsTopAbove, StandsAbove, IsCanonical, Extends, Keeps, Means, IsTruth}
+use Rattle.diagrams.specs.Live.{IsLive, IsTopAbove, StandsAbove, IsCanonical, Fills, Extends, Keeps, Means, IsTruth}
 use Rattle.diagrams.proofs.Canon.{canonical, above_from_depends}
+use Rattle.diagrams.proofs.Counts.{live_count-all, all_live-count}
 
 -- a depth that serves for a top
 abbrev pub Serves : ℕ → Option Look → Type 0
@@ -204,6 +206,20 @@ Extends_refl s = record { props = refl; tops = λ i n e. e }
 pub Extends_trans : (r s t : Diagrams) → Extends r s → Extends s t → Extends r t
 Extends_trans r s t x y = record { props = y.props ∙ x.props; tops = λ i n e. y.tops i n (x.tops i n e) }
 
+-- no slot is added where nothing changes
+pub Fills_refl : (s : Diagrams) → Fills s s
+Fills_refl s = record { slots = omega arith; full = λ h. absurd (omega arith) }
+
+-- slots that are filled in two steps are so in both together
+pub Fills_trans : (r s t : Diagrams) → Extends s t → Fills r s → Fills s t → Fills r t
+Fills_trans r s t e x y = record {
+  slots = omega (arith, x.slots, y.slots);
+  full = λ h. elim (cases_lt (length s.tops) (length t.tops)) [
+    | inl more ↦ y.full more
+    | inr same ↦ live_count-all t (λ i k. live_lasts s t e i (all_live-count s (x.full (omega (arith, h, same))) i (omega (arith, k, same))))
+  ];
+}
+
 -- what a top says of the value
 pub eval-node : (s : Diagrams) → IsCanonical s → (i : Id) (v : ℕ) (lo hi : Id) → top_of s i ≡ Some (Node v lo hi) → (a : Assignment)
     → eval s i a ≡ (if a v then eval s hi a else eval s lo a)
@@ -214,6 +230,11 @@ eval-node s c i v lo hi e a = rw (tree-node s c i v lo hi e)
 pub eval-terminal : (s : Diagrams) (i : Id) (t : ℕ) → top_of s i ≡ Some (Terminal t) → (a : Assignment) → eval s i a ≡ t
 unfolding eval
 eval-terminal s i t e a = rw (tree-terminal s i t e)
+
+-- what a live id's top says of its value
+pub top_values : (s : Diagrams) → IsCanonical s → HasTopValues s
+top_values s c i (Terminal t) e a = eval-terminal s i t e a
+top_values s c i (Node v lo hi) e a = eval-node s c i v lo hi e a
 
 -- a call that makes a terminal makes the constant function
 pub means_terminal_ok : {E : Type 0} (r : Result Id E) (s : Diagrams) (t : ℕ) → IfOk r (λ id. top_of s id ≡ Some (Terminal t)) → IfOk r (λ id. Means s id (λ _. t))
@@ -232,6 +253,10 @@ Keeps_trans r s t x y = record { was = x.was; now = y.now; extends = Extends_tra
 -- what is equal to an id's top is its top
 pub top_is : (s : Diagrams) (f : Id) (t u : Look) → top_of s f ≡ Some t → t ≡ u → top_of s f ≡ Some u
 top_is s f t u e q = e ∙ ap (λ w. Some w) q
+
+-- slots that are filled by two calls in a row are so by both together
+pub fills_on : (r s t : Diagrams) → Keeps s t → Fills r s → Fills s t → Fills r t
+fills_on r s t k x y = Fills_trans r s t k.extends x y
 
 -- a diagram of terminals 0 and 1 stays one
 pub truth_lasts : (s n : Diagrams) → Keeps s n → (f : Id) → IsTruth s f → IsTruth n f

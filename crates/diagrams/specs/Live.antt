@@ -1,5 +1,6 @@
 -- Live ids: canonical stores, and what stays as a store grows.
-use Rattle.std.specs.Prelude.{◌↔◌, ◌≡◌, ◌≢◌, ℕ, ◌<◌, List, IsSome, Option, Some, None}
+use Rattle.std.specs.Prelude.{◌↔◌, ◌≡◌, ◌≢◌, ℕ, ◌<◌, ◌≤◌, List, length, IsSome, is_some, Option, Some, None}
+use Rattle.std.specs.List.{count_by}
 use Rattle.diagrams.specs.declared.top.Id.{Id}
 use Rattle.diagrams.specs.declared.top.Look.{Look}
 use Rattle.diagrams.specs.declared.top.Look.TheVariants.{Terminal, Node}
@@ -36,6 +37,15 @@ pub record IsCanonical (s : Diagrams) : Type 0 where
 pub record Extends (old new : Diagrams) : Type 0 where
   pub props : new.props ≡ old.props
   pub tops : (i : Id) (n : Look) → top_of old i ≡ Some n → top_of new i ≡ Some n
+
+-- how many ids are live
+abbrev pub live_count : Diagrams → ℕ
+live_count s = count_by is_some s.tops
+
+-- no slot goes, and where there are more of them than before as many ids are live as there are slots
+pub record Fills (old new : Diagrams) : Type 0 where
+  pub slots : length old.tops ≤ length new.tops
+  pub full : length old.tops < length new.tops → live_count new ≡ length new.tops
 
 -- the store was canonical and is so still, and each live id means what it meant
 pub record Keeps (old new : Diagrams) : Type 0 where

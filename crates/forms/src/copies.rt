@@ -1,3 +1,4 @@
+//! Copies of formulas and path programs.
 ghost use Rattle.std.specs.Prelude.{◌≡◌, IfOk};
 ghost use Rattle.forms.specs.Tree.{tree, program};
 

@@ -1,3 +1,4 @@
+//! How many parts a formula has.
 ghost use Rattle.std.specs.Prelude.{◌≡◌, ◌<◌, ◌≤◌, ◌^◌, length};
 ghost use Rattle.forms.specs.Tree.{tree, program, nodes, program_nodes};
 ghost use Rattle.forms.specs.Parts as listed;

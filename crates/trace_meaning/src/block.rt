@@ -1,3 +1,4 @@
+//! The values of a formula at the letters of a block, by those of its operands.
 ghost use Rattle.std.specs.Prelude.{◌≡◌, IfOk, length};
 ghost use Rattle.trace_meaning.specs.Block as spec;
 ghost use Rattle.trace_meaning.specs.State.{state, path_state};

@@ -1,3 +1,4 @@
+//! Nodes and tracks built from formulas and path programs, with what holds at the end of the word.
 ghost use Rattle.std.specs.Prelude.{◌≡◌, [], ◌&&◌, false, IfOk};
 ghost use Rattle.forms.specs.Proper.{IsProper, IsProperProgram};
 ghost use Rattle.forms.specs.Satisfaction.{sat, goes};

@@ -1,3 +1,4 @@
+//! Columns: the values of one formula at the positions of a block.
 ghost use Rattle.std.specs.Prelude.{◌≡◌, ◌%◌, ◌==◌, IfOk, length, replicate};
 ghost use Rattle.std.specs.Int.{bit_at};
 ghost use Rattle.trace_meaning.specs.Column as spec;

@@ -1,3 +1,4 @@
+//! A trace judged in blocks, from its last letter backwards.
 ghost use Rattle.std.specs.Prelude.{◌≡◌, ◌≤◌, ◌<◌, IfOk, length};
 ghost use Rattle.forms.specs.Satisfaction.{meets};
 ghost use Rattle.forms.specs.Proper.{IsProper};

@@ -1,3 +1,4 @@
+//! Where a path leads from the positions of a block.
 ghost use Rattle.std.specs.Prelude.{◌≡◌, IfOk, length};
 ghost use Rattle.trace_meaning.specs.Leads as spec;
 

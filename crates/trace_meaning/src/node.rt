@@ -1,3 +1,4 @@
+//! Formulas and path programs, each with what it knows of the letters judged so far.
 use crate::operator::{Binary, Unary};
 
 /// Where a path leads from a position: `further`, to a later one that is a good end of it, and `stays`,

@@ -1,3 +1,4 @@
+//! The operators, position by position from the last one backwards.
 ghost use Rattle.std.specs.Prelude.{◌≡◌};
 ghost use Rattle.trace_meaning.specs.Operator as spec;
 

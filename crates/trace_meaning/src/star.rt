@@ -1,3 +1,4 @@
+//! A star, by turns over its path at one position.
 ghost use Rattle.std.specs.Prelude.{◌≡◌, ◌&&◌, false, length};
 ghost use Rattle.trace_meaning.specs.Star as spec;
 ghost use Rattle.trace_meaning.specs.Column as column;
