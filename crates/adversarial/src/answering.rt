@@ -1,5 +1,5 @@
 //! Answers that keep the goal from being met.
-ghost use Rattle.std.specs.Prelude.{◌≡◌, ◌<◌, ◌≤◌, ℕ, Bool, false, List, [], length, slice_index, IfOk};
+ghost use Rattle.std.specs.Prelude.{◌≡◌, ◌<◌, ◌≤◌, ℕ, Bool, false, List, [], length, slice_index, IfOk, OnOk};
 ghost use Rattle.diagrams.specs.Tree.{Assignment};
 ghost use Rattle.diagrams.specs.Eval.{eval, DependsOn};
 ghost use Rattle.diagrams.specs.Live.{IsLive, Keeps};
@@ -9,6 +9,7 @@ ghost use Rattle.game.specs.Board.{width};
 ghost use Rattle.game.specs.Histories.{Aims};
 ghost use Rattle.game.specs.Arena.{IsArenaOf};
 ghost use Rattle.layers.specs.Ranked.{AreRanks, GoesByInput};
+ghost use Rattle.layers.specs.Folding.{IsRightFor};
 ghost use Rattle.layers.specs.ArenaRows.{AreArenaRows};
 ghost use Rattle.layers.specs.ArenaRows as table;
 ghost use Rattle.arena.specs.Left.{FitsArena, locations_of};
@@ -17,9 +18,9 @@ ghost use Rattle.adversarial.specs.Answered.{unranked_code, AreUnranked, IsAnswe
 use arena::Arena;
 use attractor::Sides;
 use bes_io::Memory;
-use diagrams::{Id, Op, Store};
+use diagrams::{Id, Store};
 use forms::Partition;
-use layers::{EnvTable, Ranks, agent_sides};
+use layers::{Below, EnvTable, Folding, Ranks, agent_sides, fold_row};
 use std::alloc::Global;
 
 /// 1 where there is no rank, and else 0.
@@ -45,21 +46,29 @@ fn codes(alloc: Global, ranks: &[Option<u32>]) -> Result<Vec<u32>, Memory>
 }
 
 /// The table of answers of a row that isn't won.
-fn answer(store: &mut Store, row: Id, table: &[u32], sides: Sides) -> Result<Id, Memory>
+fn answer(
+    store: &mut Store,
+    folding: &mut Folding,
+    row: Id,
+    table: &[u32],
+    sides: Sides,
+) -> Result<Id, Memory>
     requires live { IsLive store.old row }
     requires fit { (a : Assignment) → eval store.old row a < length table.now }
     requires small { (k : ℕ) → k < length table.now → slice_index table.now k < 2 }
     requires letters { DependsOn store.old row (λ v. v < store.old.props) }
     requires before { sides.before ≤ store.old.props }
+    requires right { IsRightFor store.old Below.Item sides.before table.now folding.old }
     ensures keeps { Keeps store.old store.new }
+    ensures right { OnOk result (IsRightFor store.new Below.Item sides.before table.now folding.new) }
     ensures id { IfOk result (λ id. HasValues store.new id (IsAnswerValue sides.lesser_before sides.before store.old.props (item_value store.old table.now row))) }
 {
     let props = store.props();
-    let evades = store.map_terminals(row, table)?;
     if sides.lesser_before {
+        let evades = store.map_terminals(row, table)?;
         store.pick(evades, sides.before, props)
     } else {
-        let all = store.fold(Op::Least, evades, sides.before, props)?;
+        let all = fold_row(store, folding, row, table, Below::Item, sides.before)?;
         store.pick(all, 0, sides.before)
     }
 }
@@ -67,6 +76,7 @@ fn answer(store: &mut Store, row: Id, table: &[u32], sides: Sides) -> Result<Id,
 /// The table of answers of a row, where it isn't won.
 fn answer_unless(
     store: &mut Store,
+    folding: &mut Folding,
     row: Id,
     rank: Option<u32>,
     table: &[u32],
@@ -77,13 +87,15 @@ fn answer_unless(
     requires small { (k : ℕ) → k < length table.now → slice_index table.now k < 2 }
     requires letters { DependsOn store.old row (λ v. v < store.old.props) }
     requires before { sides.before ≤ store.old.props }
+    requires right { IsRightFor store.old Below.Item sides.before table.now folding.old }
     ensures keeps { Keeps store.old store.new }
+    ensures right { OnOk result (IsRightFor store.new Below.Item sides.before table.now folding.new) }
     ensures id { IfOk result (λ made. IsChosen store.old store.new sides.lesser_before sides.before table.now row rank made) }
 {
     prove!(store.props() <= 32);
     match rank {
         Some(_) => Ok(None),
-        None => Ok(Some(answer(store, row, table, sides)?)),
+        None => Ok(Some(answer(store, folding, row, table, sides)?)),
     }
 }
 
@@ -105,9 +117,10 @@ fn answers_of_rows(
     prove!(store.props() <= 32);
     let sides = agent_sides(partition);
     let table = codes(alloc, ranks)?;
+    let mut folding = Folding::new(alloc);
     let mut made = EnvTable::new(alloc);
     for at in 0..rows.len() {
-        made.push(answer_unless(store, rows[at], ranks[at], &table, sides)?)?;
+        made.push(answer_unless(store, &mut folding, rows[at], ranks[at], &table, sides)?)?;
     }
     Ok(made)
 }

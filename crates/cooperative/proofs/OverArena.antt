@@ -25,6 +25,7 @@ use Rattle.layers.proofs.ArenaLemmas.{arena_rows, arena_won}
 use Rattle.layers.proofs.DistanceLemmas.{can_hope, hope_can}
 use Rattle.layers.proofs.MoreBounds.{distance_most, decision_hope_few, loss_less}
 use Rattle.layers.proofs.Duty.{holds_along, can_keep, decision_loss_few}
+use Rattle.layers.proofs.Meeting.{can_reaches}
 use Rattle.layers.proofs.HistoryLemmas.{leads_within, history_distances, history_meets, location_meets, history_losses, history_keeps, decision_leads}
 use Rattle.arena.specs.Left.{ArenaTable, FitsArena, locations_of}
 use Rattle.cooperative.specs.declared.loss.Loss.{Loss}
@@ -210,4 +211,5 @@ pub hope_is_possibility : HopeIsPossibility
 hope_is_possibility s g = record {
   met = λ h n o l r. hope_is_meeting (histories s) (λ h. IsOver (width s.parts) h × IsLegalHistory s h) g (λ h i. done_or_not s h) n h (o, l) r;
   never = λ h o l f n. out_of_reach_is_never_met (histories s) (λ h. IsOver (width s.parts) h × IsLegalHistory s h) g (λ h i. done_or_not s h) h (o, l) f n;
+  some = λ decided h n o l r. can_reaches (histories s) (λ h. IsOver (width s.parts) h × IsLegalHistory s h) g (λ h i. done_or_not s h) (λ h x i d. decided h x i.0 i.1 d) n h (o, l) r;
 }

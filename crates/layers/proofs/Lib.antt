@@ -22,3 +22,5 @@ pub mod FoldedRows
 pub mod NarrowedLemmas
 pub mod HistoryLemmas
 pub mod SameLocations
+pub mod FoldingLemmas
+pub mod FoldingEnds

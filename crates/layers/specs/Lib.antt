@@ -8,3 +8,4 @@ pub mod Laws
 pub mod Narrowed
 pub mod HistoryNumbers
 pub mod Keeping
+pub mod Folding

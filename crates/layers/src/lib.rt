@@ -5,11 +5,13 @@
 //! equation of the attractor are the least numbers (`proofs/Solved.antt`).
 #![tactic(auto)]
 
+mod folding;
 mod laws;
 mod lists;
 mod narrowing;
 mod sides;
 
+pub use folding::{Below, Folding, fold_row};
 pub use laws::laws_of_layers;
 pub use lists::{Distances, EnvTable, Ranks};
 pub use narrowing::narrowed;

@@ -43,28 +43,31 @@ pub(crate) struct Case {
     pub(crate) found: &'static [Found],
 }
 
-pub(crate) const CASES: [Case; 10] = [
-    Case {
-        name: "two locations, and a decision with their number",
-        game: Game {
-            first: Mover::Environment,
-            inputs: 1,
-            outputs: 1,
-            goal: "F (g & r)",
-            assume: None,
-            duty: None,
-        },
-        found: &[
-            Found::Hoped {
-                distance: 1,
-                answers: &[(0, 0)],
-            },
-            Found::Won {
-                rank: 0,
-                distance: 0,
-            },
-        ],
+/// The case in which the hope of a decision is the number of locations.
+pub(crate) const TWO_LOCATIONS: Case = Case {
+    name: "two locations, and a decision with their number",
+    game: Game {
+        first: Mover::Environment,
+        inputs: 1,
+        outputs: 1,
+        goal: "F (g & r)",
+        assume: None,
+        duty: None,
     },
+    found: &[
+        Found::Hoped {
+            distance: 1,
+            answers: &[(0, 0)],
+        },
+        Found::Won {
+            rank: 0,
+            distance: 0,
+        },
+    ],
+};
+
+pub(crate) const CASES: [Case; 10] = [
+    TWO_LOCATIONS,
     Case {
         name: "a request that is promised",
         game: Game {

@@ -3,12 +3,12 @@ ghost use Rattle.std.specs.Prelude.{◌≡◌, ◌<◌, ℕ, false, length, IfOk
 ghost use Rattle.diagrams.specs.Live.{IsLive, Keeps};
 ghost use Rattle.attractor.specs.Graph.{number_at};
 ghost use Rattle.layers.specs.Ranked.{AreRanks};
-ghost use Rattle.arena.specs.Left.{locations_of};
+ghost use Rattle.arena.specs.Left.{locations_of, FitsArena};
 ghost use Rattle.adversarial.specs.Answered.{AreAnswerDiagrams};
 ghost use Rattle.tests_of_solving.specs.Ready.{IsReady};
 
 use crate::arenas::{arena_of, props_of};
-use crate::games::{Answer, CASES, Case, Found};
+use crate::games::{Answer, CASES, Case, Found, TWO_LOCATIONS};
 use adversarial::{answers, solve};
 use arena::Arena;
 use bes_io::Memory;
@@ -152,6 +152,8 @@ fn hopes(
     requires ready { IsReady store.old arena.now }
     requires size { length ranks.now ≡ length arena.now.rows }
     requires ranks { AreRanks arena.now.partition arena.now.has_duty (locations_of store.old arena.now) (number_at ranks.now) }
+    ensures keeps { Keeps store.old store.new }
+    ensures fits { FitsArena store.new arena.now }
 {
     let near = distances(alloc, store, arena, ranks)?;
     let lost = losses(alloc, store, arena, ranks, &near)?;
@@ -173,5 +175,42 @@ fn locations_have_their_distances_and_losses(rt: HostRuntime) -> Result<(), Fail
         let hoped = is_hoped_for(rt.alloc(), case)?;
         assert!(rt; hoped, "{}", case.name);
     }
+    Ok(())
+}
+
+// One more than the distance of the location to which a round leads. A round that there isn't fails the test.
+fn one_more(store: &Store, arena: &Arena, near: &Distances, at: u32, letter: u64) -> Option<u32>
+    requires fits { FitsArena store.now arena.now }
+{
+    if at >= arena.size() || store.props() != 2 || letter >= 4 {
+        return None;
+    }
+    let to = store.value(arena.row(at), letter) as usize;
+    if to >= near.len() {
+        return None;
+    }
+    match near.item(to) {
+        Some(n) => n.checked_add(1),
+        None => None,
+    }
+}
+
+// Of the two rounds with the decision 0 at the first location, which can't be won.
+fn idle_hopes(alloc: Global, case: &Case) -> Result<(Option<u32>, Option<u32>), Fail> {
+    let mut store = Store::new(alloc, props_of(&case.game)?)?;
+    let arena = arena_of(alloc, &mut store, &case.game)?;
+    let ranks = solve(alloc, &mut store, &arena)?;
+    let (near, _lost) = hopes(alloc, &mut store, &arena, &ranks)?;
+    Ok((
+        one_more(&store, &arena, &near, 0, 0),
+        one_more(&store, &arena, &near, 0, 1),
+    ))
+}
+
+#[test]
+fn the_hope_of_a_decision_may_be_the_number_of_locations(rt: HostRuntime) -> Result<(), Fail> {
+    let case = &TWO_LOCATIONS;
+    assert_eq!(rt; case.found.len(), 2);
+    assert_eq!(rt; idle_hopes(rt.alloc(), case)?, (Some(2), Some(2)));
     Ok(())
 }

@@ -1,7 +1,9 @@
 use Rattle.std.proofs.Common.{◌≡◌, ◌<◌, ◌+◌, ◌∙◌, length, [], sym, subst, ap, arith}
-use Rattle.diagrams.proofs.Meaning.{Keeps_trans}
+use Rattle.diagrams.proofs.Meaning.{Keeps_refl, Keeps_trans}
 use Rattle.diagrams.specs.Eval.{id_at}
 use Rattle.attractor.specs.Graph.{number_at}
+use Rattle.layers.specs.declared.folding.Below.TheVariants.{Item}
+use Rattle.layers.specs.Folding.{IsRightFor}
 use Rattle.adversarial.specs.Answered.{IsChosen, AreChosen}
 use Rattle.adversarial.proofs.OverArena.{rows_again}
 use Rattle.adversarial.proofs.AnswerDiagrams.{chosen_diagrams}
@@ -17,6 +19,16 @@ pub answer_unless-requires-clause-letters : goal.answer_unless-requires-clause-l
 answer_unless-requires-clause-letters c =
     (row_now c.args.store.now c.loop-at.store c.args.partition.now c.args.rows.now [] c.args.ranks.now c.in_ok-table.table.items c.requires.arena c.loop-at.invariant.0 c.in_ok-table.ensures c.requires.size c.loop-at.at (omega arith)).letters
 
+pub answer_unless-requires-clause-right : goal.answer_unless-requires-clause-right
+answer_unless-requires-clause-right c = rw c.deref.ensures.value c.loop-at.invariant.2
+
+pub loop-at-init : goal.loop-at-init
+loop-at-init c = (
+  Keeps_refl c.args.store.now c.props.ensures.canonical,
+  record { size = ap length c.new-made.ensures; each = λ at h. absurd (omega arith) },
+  c.new-folding.ensures c.args.store.now Item c.agent_sides-sides.result.before c.in_ok-table.table.items,
+)
+
 pub loop-at-preserved : goal.loop-at-preserved
 loop-at-preserved c =
     let h : c.loop-at.at < length c.args.rows.now = omega arith in
@@ -30,6 +42,7 @@ loop-at-preserved c =
       subst (λ ms. AreChosen c.args.store.now c.answer_unless.new.store c.agent_sides-sides.result.lesser_before c.agent_sides-sides.result.before c.in_ok-table.table.items c.args.rows.now c.args.ranks.now ms (c.loop-at.at + 1)) (sym c.in_ok-push.ensures.ok)
           (chosen_more c.args.store.now c.loop-at.store c.answer_unless.new.store keeps c.agent_sides-sides.result.lesser_before c.agent_sides-sides.result.before c.in_ok-table.table.items c.args.rows.now c.args.ranks.now c.loop-at.made c.loop-at.at
           c.in_ok-answer_unless.field-0 c.loop-at.invariant.1 here),
+      subst (λ t. IsRightFor c.answer_unless.new.store Item c.agent_sides-sides.result.before t c.answer_unless.new.folding) c.deref.ensures.value c.in_ok-answer_unless.ensures.right,
     )
 
 pub returns-clause-answers : goal.returns-clause-answers

@@ -20,3 +20,12 @@ losses-requires-clause-ranks c =
 pub losses-requires-clause-distances : goal.losses-requires-clause-distances
 losses-requires-clause-distances c =
     distances_last c.args.store.now c.distances.new.store c.distances.ensures.keeps c.args.arena.now c.requires.ready.fits c.args.arena.now.partition c.args.arena.now.has_duty (number_at c.in_ok-near.near) c.in_ok-near.ensures.distances
+
+pub returns-in_err-near-clause-fits : goal.returns-in_err-near-clause-fits
+returns-in_err-near-clause-fits c = arena_fits c.args.store.now c.distances.new.store c.distances.ensures.keeps c.args.arena.now c.requires.ready.fits
+
+pub returns-in_err-lost-clause-fits : goal.returns-in_err-lost-clause-fits
+returns-in_err-lost-clause-fits c = rw c.losses.ensures.same (arena_fits c.args.store.now c.distances.new.store c.distances.ensures.keeps c.args.arena.now c.requires.ready.fits)
+
+pub returns-clause-fits : goal.returns-clause-fits
+returns-clause-fits c = rw c.losses.ensures.same (arena_fits c.args.store.now c.distances.new.store c.distances.ensures.keeps c.args.arena.now c.requires.ready.fits)
