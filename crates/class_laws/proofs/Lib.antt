@@ -1,0 +1,9 @@
+pub mod Rounds
+pub mod Paid
+pub mod ShiftAll
+pub mod Parting
+pub mod Settling
+pub mod Splitting
+pub mod Grouped
+pub mod Looking
+pub mod Beginning

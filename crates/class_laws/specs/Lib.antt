@@ -1,0 +1,5 @@
+pub mod Divided
+pub mod Classes
+pub mod Splits
+pub mod Shifts
+pub mod Current
