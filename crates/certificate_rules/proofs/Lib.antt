@@ -1,0 +1,10 @@
+pub mod Everywhere
+pub mod Wins
+pub mod Reaches
+pub mod Losing
+pub mod RightLemmas
+pub mod Growing
+pub mod Marked
+pub mod Searching
+pub mod Valid
+pub mod FailureLemmas

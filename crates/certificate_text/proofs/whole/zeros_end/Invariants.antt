@@ -1,0 +1,5 @@
+use Rattle.certificate_text.specs.Halves.{HasAll}
+use Rattle.certificate_text.proofs.whole.zeros_end.Given as goal
+
+abbrev pub invariant-loop-i : goal.invariant-loop-i
+invariant-loop-i l = HasAll l.cubes l.width l.depth l.from l.i 48

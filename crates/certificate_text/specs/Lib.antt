@@ -1,0 +1,6 @@
+pub mod Asked
+pub mod Lines
+pub mod Halves
+pub mod Digits
+pub mod Marks
+pub mod AskingLaws

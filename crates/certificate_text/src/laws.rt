@@ -1,0 +1,14 @@
+//! Laws of asking, each proved because the contract of a function here names it.
+ghost use Rattle.certificate_text.specs.AskingLaws.{EachIsAsked, SomeIsAsked, SomeEachIsAsked, EachSomeIsAsked, OneEachIsAsked, OneSomeIsAsked, WholeGivesEach, TestsAreOfRules};
+
+/// What questions by levels mean, that whole lists of rounds give each letter a field, and what targets are asked for.
+pub fn laws_of_asking()
+    ensures each { EachIsAsked }
+    ensures some { SomeIsAsked }
+    ensures some_each { SomeEachIsAsked }
+    ensures each_some { EachSomeIsAsked }
+    ensures one_each { OneEachIsAsked }
+    ensures one_some { OneSomeIsAsked }
+    ensures whole { WholeGivesEach }
+    ensures tests { TestsAreOfRules }
+{}
