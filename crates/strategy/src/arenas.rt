@@ -95,6 +95,7 @@ pub fn merge(
     ensures keeps { Keeps store.old store.new }
     ensures fits { IfOk result (λ made. FitsStrategy store.new made) }
     ensures partition { IfOk result (λ made. (plan_of store.new made).parts ≡ arena.partition) }
+    ensures size { IfOk result (λ made. (plan_of store.new made).size ≡ length arena.rows) }
     ensures verdict { IfOk result (λ made. (plan_of store.new made).verdict ≡ number_at ranks 0) }
     ensures printed { (c d : Claims) → Agree (width arena.partition) c d → is_given c.duty ≡ arena.has_duty
         → IsArenaOf (aims_with arena.partition c) (locations_of store.old arena) → IsKeepable (aims_with arena.partition c) []

@@ -55,6 +55,7 @@ pub fn merge_rows(
     ensures keeps { Keeps store.old store.new }
     ensures fits { IfOk result (λ made. FitsStrategy store.new made) }
     ensures partition { IfOk result (λ made. (plan_of store.new made).parts ≡ partition) }
+    ensures size { IfOk result (λ made. (plan_of store.new made).size ≡ length rows.items) }
     ensures verdict { IfOk result (λ made. (plan_of store.new made).verdict ≡ number_in numbers.now.ranks.items 0) }
     ensures merged { IfOk result (λ made. IsMerged store.old partition rows.items goals.now numbers.now answers.items (plan_of store.new made)) }
 {

@@ -1,5 +1,5 @@
 -- Automata of formulas, and the first formula over a limit.
-use Rattle.std.proofs.Common.{◌≡◌, ◌<◌, ◌≤◌, ◌==◌, ℕ, zero, suc, Bool, true, false, List, [], length, Option, Some, None, inl, inr, refl, sym, ◌∙◌, ap, subst, arith}
+use Rattle.std.proofs.Common.{◌≡◌, ◌<◌, ◌≤◌, ◌*◌, ◌==◌, ℕ, zero, suc, Bool, true, false, List, [], length, Option, Some, None, inl, inr, refl, sym, ◌∙◌, ap, subst, arith}
 use Rattle.std.specs.Prelude.{All, slice_index}
 use Rattle.std.proofs.lemmas.Bool.{cases_lt}
 use Rattle.std.proofs.lemmas.Option.{slice_get_past}
@@ -28,14 +28,14 @@ use Rattle.printed_strategy.specs.Printed.{IsPrintedFor}
 use Rattle.legality.specs.declared.fault.ArenaFault.{ArenaFault}
 use Rattle.legality.specs.declared.fault.ArenaFault.TheVariants as arena
 use Rattle.legality.specs.Legal.{IsRightFault}
-use Rattle.arena.specs.Building.{claim_where, FitsWhere}
+use Rattle.arena.specs.Building.{claim_where, FitsWhere, assumed_count, duty_count}
 use Rattle.synthesis.specs.declared.fault.Role.{Role}
 use Rattle.synthesis.specs.declared.fault.Role.TheVariants.{Assumption, Goal, Duty}
 use Rattle.synthesis.specs.declared.fault.SynthesisFault.{SynthesisFault}
 use Rattle.synthesis.specs.declared.fault.SynthesisFault.TheVariants.{TooMany, Unkeepable, Memory}
 use Rattle.synthesis.specs.declared.translations.Automata.{Automata}
 use Rattle.synthesis.specs.Claims.{claims_of}
-use Rattle.synthesis.specs.Formulas.{Asked, traces_of, claims_by, aims_by, IsFormulaWithin, IsWithinWhere, AreWithin, IsFirstOverWhere, IsFirstOverIn, HasCause, fault_at, fault_of, IsOver, IsOverIn, IsAutomatonOf, IsAutomatonWhere, AreAutomataOf}
+use Rattle.synthesis.specs.Formulas.{Asked, traces_of, claims_by, aims_by, IsFormulaWithin, IsWithinWhere, AreWithin, IsFirstOverWhere, IsFirstOverIn, HasCause, fault_at, fault_of, IsOver, IsOverIn, IsAutomatonOf, IsAutomatonWhere, AreAutomataOf, IsCountedWhere, AreCounted, IsAssumedCount, IsDutyCount, HasFewLocations}
 
 -- there is no part after the last, so what is counted there is the whole
 whole-count : (p : ℕ) (f : Formula) (empty : Bool) (count : ℕ) → HasClassCount p (whole_claim p f empty) count → HasCount p f empty (suc (length (parts f))) count
@@ -174,3 +174,37 @@ printed-in q p e x y m t duty f =
 -- what is assumed can be kept as well by claims that agree
 pub kept-same : (p : Partition) (x y : Claims) → Agree (width p) x y → IsKeepable (aims_with p x) [] → IsKeepable (aims_with p y) []
 kept-same p x y agree keep = keepable_same p x y agree [] (over-nil (width p)) keep
+
+-- the counts of automata that were made one after the other
+pub all-counted : (s a b : Diagrams) → Keeps s a → Keeps a b → (q : Asked) (made : Automata) → IsCountedWhere s.props q.assume made.keep
+    → HasClassCount a.props (whole_claim a.props q.goal q.empty) (size_of made.goal) → IsCountedWhere b.props q.duty made.duty → AreCounted s.props q made
+all-counted s a b j k q made x y z = record {
+  keep = x;
+  goal = subst (λ p. HasClassCount p (whole_claim p q.goal q.empty) (size_of made.goal)) j.extends.props y;
+  duty = subst (λ p. IsCountedWhere p q.duty made.duty) (k.extends.props ∙ j.extends.props) z;
+}
+
+assumed-counted : (p : ℕ) (f : Option Formula) (t : Option Table) → IsCountedWhere p f t → IsAssumedCount p f (assumed_count t)
+assumed-counted p None None x = refl
+assumed-counted p None (Some t) x = absurd x
+assumed-counted p (Some f) None x = absurd x
+assumed-counted p (Some f) (Some t) x = x
+
+duty-counted : (p : ℕ) (f : Option Formula) (t : Option Table) → IsCountedWhere p f t → IsDutyCount p f (duty_count t)
+duty-counted p None None x = refl
+duty-counted p None (Some t) x = absurd x
+duty-counted p (Some f) None x = absurd x
+duty-counted p (Some f) (Some t) x = (size_of t, x, refl)
+
+-- locations are few, by the sizes of the automata
+pub few-locations : (p w : ℕ) (a : Asked) (made : Automata) (keep duty : Option Table) (size : ℕ) → AreCounted p a made → w ≡ p → keep ≡ made.keep → duty ≡ made.duty
+    → size ≤ size_of made.goal * assumed_count keep * duty_count duty → HasFewLocations w a size
+few-locations p w a made keep duty size are e k d small = subst (λ q. HasFewLocations q a size) (sym e) (record {
+  goal = size_of made.goal;
+  assumed = assumed_count made.keep;
+  duty = duty_count made.duty;
+  goal_classes = are.goal;
+  assumed_classes = assumed-counted p a.assume made.keep are.keep;
+  duty_classes = duty-counted p a.duty made.duty are.duty;
+  few = subst (λ z. size ≤ size_of made.goal * assumed_count made.keep * duty_count z) d (subst (λ z. size ≤ size_of made.goal * assumed_count z * duty_count duty) k small);
+})

@@ -1,11 +1,12 @@
 -- What a specification asks for, in formulas, and why it has no strategy.
-use Rattle.std.specs.Prelude.{◌≡◌, ◌<◌, ◌≤◌, ℕ, suc, Bool, false, [], length, Option, Some, None}
+use Rattle.std.specs.Prelude.{◌≡◌, ◌<◌, ◌≤◌, ◌+◌, ◌*◌, ℕ, suc, Bool, false, [], length, Option, Some, None}
 use Rattle.std.specs.Option.{IfSome, option_map}
 use Rattle.forms.specs.Word.{Word, Claim}
 use Rattle.forms.specs.Tree.{Formula, tree}
 use Rattle.forms.specs.Parts.{parts}
 use Rattle.forms.specs.Proper.{IsProper}
 use Rattle.forms.specs.Satisfaction.{meets}
+use Rattle.forms.specs.Equivalence.{HasClassCount}
 use Rattle.diagrams.specs.Eval.{Diagrams}
 use Rattle.automata.specs.Table.{Table, size_of, mark_of, Fits}
 use Rattle.translate.specs.Counting.{whole_claim, IsWithin, IsFirstOver}
@@ -129,3 +130,37 @@ pub record AreAutomataOf (s : Diagrams) (p : ℕ) (a : Asked) (made : Automata) 
   pub keep : IsAutomatonWhere s p a.assume made.keep
   pub goal : IsAutomatonOf s made.goal (whole_claim p a.goal a.empty)
   pub duty : IsAutomatonWhere s p a.duty made.duty
+
+-- there is an automaton exactly where there is a formula, and it has as many locations as the traces have classes
+abbrev pub IsCountedWhere : ℕ → Option Formula → Option Table → Type 0
+IsCountedWhere p None None = Unit {0}
+IsCountedWhere p None (Some t) = ⊥
+IsCountedWhere p (Some f) None = ⊥
+IsCountedWhere p (Some f) (Some t) = HasClassCount p (λ w. meets p f w) (size_of t)
+
+-- each automaton has as many locations as its formula has classes
+pub record AreCounted (p : ℕ) (a : Asked) (made : Automata) : Type 0 where
+  pub keep : IsCountedWhere p a.assume made.keep
+  pub goal : HasClassCount p (whole_claim p a.goal a.empty) (size_of made.goal)
+  pub duty : IsCountedWhere p a.duty made.duty
+
+-- so many classes have the traces of what is assumed; 1 where nothing is
+abbrev pub IsAssumedCount : ℕ → Option Formula → ℕ → Type 0
+IsAssumedCount p None n = n ≡ 1
+IsAssumedCount p (Some f) n = HasClassCount p (λ w. meets p f w) n
+
+-- one more than the classes of the duty's traces, since histories that have broken it are apart; 1 where there is none
+abbrev pub IsDutyCount : ℕ → Option Formula → ℕ → Type 0
+IsDutyCount p None n = n ≡ 1
+IsDutyCount p (Some f) n = (classes : ℕ) × HasClassCount p (λ w. meets p f w) classes × (n ≡ classes + 1)
+
+-- A strategy has at most as many locations as the goal has classes, times those of what is assumed, times one more than those of
+-- the duty.
+pub record HasFewLocations (p : ℕ) (a : Asked) (size : ℕ) : Type 0 where
+  pub goal : ℕ
+  pub assumed : ℕ
+  pub duty : ℕ
+  pub goal_classes : HasClassCount p (whole_claim p a.goal a.empty) goal
+  pub assumed_classes : IsAssumedCount p a.assume assumed
+  pub duty_classes : IsDutyCount p a.duty duty
+  pub few : size ≤ goal * assumed * duty

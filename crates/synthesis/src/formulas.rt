@@ -7,7 +7,7 @@ ghost use Rattle.game.specs.Histories.{IsKeepable};
 ghost use Rattle.printed_strategy.specs.Printed.{IsPrintedFor};
 ghost use Rattle.strategy.specs.Plan.{plan_of};
 ghost use Rattle.strategy.specs.Fits.{FitsStrategy};
-ghost use Rattle.synthesis.specs.Formulas.{asked, aims_by, AreProper, AreWithin, HasCause};
+ghost use Rattle.synthesis.specs.Formulas.{asked, aims_by, AreProper, AreWithin, HasCause, HasFewLocations};
 
 use crate::fault::{SynthesisFault, fault_of};
 use crate::synthesis::synthesise;
@@ -44,6 +44,7 @@ pub fn synthesise_formulas(
     ensures fits { IfOk result (λ made. FitsStrategy store.new made) }
     ensures partition { IfOk result (λ made. (plan_of store.new made).parts ≡ partition) }
     ensures printed { IfOk result (λ made. IsPrintedFor (aims_by partition (asked formulas.now)) (plan_of store.new made)) }
+    ensures few { IfOk result (λ made. HasFewLocations (width partition) (asked formulas.now) (plan_of store.new made).size) }
     ensures kept { OnOk result (IsKeepable (aims_by partition (asked formulas.now)) []) }
     ensures within { OnOk result (AreWithin (width partition) limit (asked formulas.now)) }
     ensures cause { IfErr result (λ fault. HasCause limit partition (asked formulas.now) fault) }

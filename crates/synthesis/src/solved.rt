@@ -59,6 +59,7 @@ pub fn strategy_of(alloc: Global, store: &mut Store, arena: Arena) -> Result<Str
     ensures keeps { Keeps store.old store.new }
     ensures fits { IfOk result (λ made. FitsStrategy store.new made) }
     ensures partition { IfOk result (λ made. (plan_of store.new made).parts ≡ arena.partition) }
+    ensures size { IfOk result (λ made. (plan_of store.new made).size ≡ length arena.rows) }
     ensures printed { (c d : Claims) → Agree (width arena.partition) c d → is_given c.duty ≡ arena.has_duty
         → IsArenaOf (aims_with arena.partition c) (locations_of store.old arena) → IsKeepable (aims_with arena.partition c) []
         → IfOk result (λ made. IsPrintedFor (aims_with arena.partition d) (plan_of store.new made)) }

@@ -1,5 +1,5 @@
 //! The strategy of a specification.
-ghost use Rattle.std.specs.Prelude.{◌≡◌, ◌<◌, ℕ, [], IfOk, OnOk, IfErr};
+ghost use Rattle.std.specs.Prelude.{◌≡◌, ◌<◌, ◌≤◌, ◌*◌, ℕ, [], IfOk, OnOk, IfErr};
 ghost use Rattle.std.specs.Option.{option_copied};
 ghost use Rattle.diagrams.specs.Live.{Keeps};
 ghost use Rattle.automata.specs.Table.{size_of, mark_of, Fits};
@@ -7,7 +7,7 @@ ghost use Rattle.game.specs.Board.{width};
 ghost use Rattle.game.specs.Histories.{IsKeepable};
 ghost use Rattle.game.specs.Same.{Claims, aims_with, Agree};
 ghost use Rattle.legality.specs.Legal.{IsRightFault};
-ghost use Rattle.arena.specs.Building.{FitsWhere};
+ghost use Rattle.arena.specs.Building.{FitsWhere, assumed_count, duty_count};
 ghost use Rattle.printed_strategy.specs.Printed.{IsPrintedFor};
 ghost use Rattle.strategy.specs.Plan.{plan_of};
 ghost use Rattle.strategy.specs.Fits.{FitsStrategy};
@@ -45,6 +45,8 @@ pub fn synthesise(
     ensures partition { IfOk result (λ made. (plan_of store.new made).parts ≡ partition) }
     ensures printed { (d : Claims) → Agree (width partition) (claims_of store.old goal.now (option_copied keep.entry) (option_copied duty.entry)) d
         → IfOk result (λ made. IsPrintedFor (aims_with partition d) (plan_of store.new made)) }
+    ensures few { IfOk result (λ made. (plan_of store.new made).size
+        ≤ size_of goal.now * assumed_count (option_copied keep.entry) * duty_count (option_copied duty.entry)) }
     ensures kept { (d : Claims) → Agree (width partition) (claims_of store.old goal.now (option_copied keep.entry) (option_copied duty.entry)) d
         → OnOk result (IsKeepable (aims_with partition d) []) }
     ensures unkeepable { (d : Claims) → Agree (width partition) (claims_of store.old goal.now (option_copied keep.entry) (option_copied duty.entry)) d

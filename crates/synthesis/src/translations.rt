@@ -3,9 +3,11 @@ ghost use Rattle.std.specs.Prelude.{◌≡◌, IfOk, OnOk, IfErr, false};
 ghost use Rattle.std.specs.Option.{IfSome, option_map};
 ghost use Rattle.forms.specs.Tree.{tree};
 ghost use Rattle.forms.specs.Proper.{IsProper};
+ghost use Rattle.forms.specs.Equivalence.{HasClassCount};
 ghost use Rattle.diagrams.specs.Live.{Keeps};
+ghost use Rattle.automata.specs.Table.{size_of};
 ghost use Rattle.translate.specs.Counting.{whole_claim, IsFirstOver};
-ghost use Rattle.synthesis.specs.Formulas.{asked, AreProper, IsFormulaWithin, IsWithinWhere, AreWithin, IsFirstOverWhere, IsOver, IsOverIn, IsAutomatonOf, IsAutomatonWhere, AreAutomataOf};
+ghost use Rattle.synthesis.specs.Formulas.{asked, AreProper, IsFormulaWithin, IsWithinWhere, AreWithin, IsFirstOverWhere, IsOver, IsOverIn, IsAutomatonOf, IsAutomatonWhere, AreAutomataOf, IsCountedWhere, AreCounted};
 
 use crate::fault::{Role, SynthesisFault, fault_at};
 use automata::Automaton;
@@ -43,6 +45,7 @@ fn automaton_of(
     requires { IsProper store.old.props (tree form.now) }
     ensures keeps { Keeps store.old store.new }
     ensures automaton { IfOk result (λ made. IsAutomatonOf store.new made (whole_claim store.old.props (tree form.now) empty)) }
+    ensures count { IfOk result (λ made. HasClassCount store.old.props (whole_claim store.old.props (tree form.now) empty) (size_of made)) }
     ensures within { OnOk result (IsFormulaWithin store.old.props limit (tree form.now) empty) }
     ensures over { IfErr result (λ fault. IsOver role (IsFirstOver store.old.props (tree form.now) empty limit) fault) }
 {
@@ -63,6 +66,7 @@ fn automaton_where(
     requires { IfSome (option_map tree form.now) (IsProper store.old.props) }
     ensures keeps { Keeps store.old store.new }
     ensures automaton { IfOk result (λ made. IsAutomatonWhere store.new store.old.props (option_map tree form.now) made) }
+    ensures count { IfOk result (λ made. IsCountedWhere store.old.props (option_map tree form.now) made) }
     ensures within { OnOk result (IsWithinWhere store.old.props limit (option_map tree form.now)) }
     ensures over { IfErr result (λ fault. IsOver role (IsFirstOverWhere store.old.props limit (option_map tree form.now)) fault) }
 {
@@ -84,6 +88,7 @@ pub(crate) fn automata_of(
     requires { AreProper store.old.props (asked formulas.now) }
     ensures keeps { Keeps store.old store.new }
     ensures automata { IfOk result (λ made. AreAutomataOf store.new store.old.props (asked formulas.now) made) }
+    ensures counts { IfOk result (λ made. AreCounted store.old.props (asked formulas.now) made) }
     ensures within { OnOk result (AreWithin store.old.props limit (asked formulas.now)) }
     ensures over { IfErr result (λ fault. IsOverIn store.old.props limit (asked formulas.now) fault) }
 {

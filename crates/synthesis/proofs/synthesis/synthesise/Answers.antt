@@ -1,6 +1,8 @@
-use Rattle.std.proofs.Common.{sym}
+use Rattle.std.proofs.Common.{◌≤◌, ◌*◌, sym, subst}
 use Rattle.std.specs.Option.{option_copied}
 use Rattle.diagrams.proofs.Meaning.{Keeps_trans}
+use Rattle.automata.specs.Table.{size_of}
+use Rattle.arena.specs.Building.{assumed_count, duty_count}
 use Rattle.arena.specs.Left.{locations_of}
 use Rattle.strategy.specs.Plan.{plan_of}
 use Rattle.synthesis.specs.Claims.{claims_of}
@@ -18,6 +20,11 @@ returns-in_ok-strategy_of-in-Ok-clause-printed c d agree =
     (plan_of c.strategy_of.new.store c.in_ok-strategy_of-in-Ok.field-0) c.in-Ok.arena.has_duty
     (c.in_ok-strategy_of-in-Ok.ensures.printed (claims_of c.args.store.now c.args.goal.now (option_copied c.args.keep) (option_copied c.args.duty)) d)
     agree (sym c.in-Ok.ensures.duty) c.in-Ok.ensures.arena c.in-Ok.ensures.kept
+
+pub returns-in_ok-strategy_of-in-Ok-clause-few : goal.returns-in_ok-strategy_of-in-Ok-clause-few
+returns-in_ok-strategy_of-in-Ok-clause-few c =
+    subst (λ n. n ≤ size_of c.args.goal.now * assumed_count (option_copied c.args.keep) * duty_count (option_copied c.args.duty))
+    (sym c.in_ok-strategy_of-in-Ok.ensures.size) c.in-Ok.ensures.few
 
 pub returns-in_ok-strategy_of-in-Ok-clause-kept : goal.returns-in_ok-strategy_of-in-Ok-clause-kept
 returns-in_ok-strategy_of-in-Ok-clause-kept c d agree =
