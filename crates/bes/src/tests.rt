@@ -1,3 +1,4 @@
+//! Tests of pacing, with a reader and a writer that count and fail.
 use crate::pacing::{HeldOutput, PacedInput, PacedMessages, PacedOutput, close};
 use bes_io::{Sink, StdSink};
 use command_endings::Status;
@@ -121,5 +122,21 @@ fn output_waits_for_the_next_read(rt: HostRuntime) -> std::result::Result<(), Fa
         assert_eq!(rt; close(&held, &mut err, Status { number }), case.answer);
         assert_eq!(rt; heard.as_slice(), case.heard);
     }
+    Ok(())
+}
+
+#[test]
+fn output_without_memory_is_written_at_once(rt: HostRuntime) -> std::result::Result<(), Fail> {
+    let taken = Cell::new(0);
+    let writer = Counting {
+        taken: &taken,
+        room: 8,
+    };
+    let held = HeldOutput::plain(writer);
+    let mut out = StdSink::new(PacedOutput::new(&held));
+    assert!(rt; out.put(b"true\n").is_ok());
+    assert_eq!(rt; taken.get(), 5);
+    assert!(rt; out.put(b"false\n").is_err());
+    assert_eq!(rt; taken.get(), 8);
     Ok(())
 }

@@ -67,12 +67,12 @@ reads-run faults taken task before old new number status (inr is) r = record {
 pub far-run : (task : Task) (before after : World) (ending : Ending) (number : ℕ) → (number ≡ status_of ending) ⊎ (number ≡ 7)
     → Performs task before after ending → IsReadSoFar task before after number
 far-run task before after ending number (inl is) p = record {
-  far = subst (ReadsFar task.reads task.to_end before after) (sym is) p.far;
-  at_goal = λ files rest tells. subst (ReadsToGoal task.reads task.to_end (task.answers files) rest after) (sym is) (p.at_goal files rest tells);
+  answered = subst (ReadsFar task.reads task.to_end before after) (sym is) p.far;
+  at_goal = λ files rest tells left. subst (ReadsToGoal task.reads task.to_end (task.answers files) rest after) (sym is) (p.at_goal files rest tells left);
 }
 far-run task before after ending number (inr is) p = record {
-  far = far-none task.reads task.to_end before after number (λ few. omega (arith, is, few));
-  at_goal = λ files rest tells. goal-none task.reads task.to_end (task.answers files) rest after number (λ few. omega (arith, is, few));
+  answered = far-none task.reads task.to_end before after number (λ few. omega (arith, is, few));
+  at_goal = λ files rest tells left. goal-none task.reads task.to_end (task.answers files) rest after number (λ few. omega (arith, is, few));
 }
 
 module _ (task : Task) (before after : World) (err told : Option (List ℕ)) (was now number : ℕ) where

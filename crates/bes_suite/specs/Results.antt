@@ -1,5 +1,5 @@
 -- What the top call leaves, by its status.
-use Rattle.std.specs.Prelude.{◌≡◌, ◌≢◌, ℕ, ◌<◌, ◌⊎◌, List, [], take, Option, None}
+use Rattle.std.specs.Prelude.{◌≡◌, ◌≢◌, ℕ, ◌<◌, ◌⊎◌, List, [], take, Option, Some, None}
 use Rattle.std.specs.Io.KnownBytes.{append_known}
 use Rattle.bes_io.specs.Causes.{Rose}
 use Rattle.command_endings.specs.declared.endings.Ending.{Ending}
@@ -11,7 +11,7 @@ use Rattle.command_endings.specs.Replies.{Reply}
 use Rattle.command_endings.specs.Runs.{Finishes}
 use Rattle.command_endings.specs.Streams.{Streams}
 use Rattle.command_endings.specs.Tasks.{Task, Tells, AddsPrefix, HasFault}
-use Rattle.command_endings.specs.Worlds.{Contents, World, IfNeeded, Gains, KeepsCounts}
+use Rattle.command_endings.specs.Worlds.{Contents, World, IfNeeded, FileFailed, Gains, KeepsCounts}
 
 -- The run gave what a reply asks for: its output, its message and its status.
 pub record Gave (replies : Reply → Type 0) (before after : World) (err told : Option (List ℕ)) (number : ℕ) : Type 0 where
@@ -55,10 +55,11 @@ abbrev pub IsPartial : Task → World → World → ℕ → Type 0
 IsPartial task before after number = (files : Contents) (rest : List ℕ) → Tells task before files rest → number ≡ 7 →
     AddsPrefix (task.answers files rest) before after
 
--- where the outside failed, a command that writes as it reads has put what is due for what it took
+-- where the outside failed, a command that writes as it reads has put what is due for what it took of an input that tells
+-- its rest
 abbrev pub IsStreamed : Task → World → World → Type 0
 IsStreamed task before after = IfNeeded task.streams
-    ((files : Contents) (rest : List ℕ) → Tells task before files rest → Streams (task.answers files) rest before after)
+    ((files : Contents) (rest : List ℕ) → Tells task before files rest → before.left ≡ Some rest → Streams (task.answers files) rest before after)
 
 -- the message of this ending was put, or at a fault a prefix of one message
 abbrev pub PutsMessage : Ending → Option (List ℕ) → Option (List ℕ) → ℕ → ℕ → Type 0
@@ -76,13 +77,16 @@ pub record PutsMessages {E : Type 0} (put : E → List ℕ → E → Type 0) (ol
   pub memory : number ≡ 8 → PutsMessage NoMemory err told was now
   pub quiet : number < 2 → new ≡ old
 
--- the names that failed gain the named file at most, and the files stay where none is named
-pub record KeepsFiles {F : Type 0} (task : Task) (before after : World) (old new : F) : Type 0 where
+-- the names that failed gain the named file at most, the files stay where none is named, and the input does where the named
+-- file failed
+pub record KeepsFiles {F S : Type 0} (task : Task) (before after : World) (old new : F) (old_input new_input : S) : Type 0 where
   pub gains : Gains task.file before.failed after.failed
   pub unopened : task.file ≡ None → new ≡ old
+  pub unread : FileFailed task.file before.failed after.failed → new_input ≡ old_input
 
--- how far the input was read, where the run ends with an answer
+-- how far the input was read, where the run ends with an answer: to its end, or, where the command stops at its goal and the
+-- input tells its rest, to the line that met it
 pub record IsReadSoFar (task : Task) (before after : World) (number : ℕ) : Type 0 where
-  pub far : ReadsFar task.reads task.to_end before after number
-  pub at_goal : (files : Contents) (rest : List ℕ) → Tells task before files rest →
+  pub answered : ReadsFar task.reads task.to_end before after number
+  pub at_goal : (files : Contents) (rest : List ℕ) → Tells task before files rest → before.left ≡ Some rest →
       ReadsToGoal task.reads task.to_end (task.answers files) rest after number

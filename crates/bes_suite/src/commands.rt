@@ -1,7 +1,7 @@
 //! The commands, by the words.
 ghost use Rattle.std.specs.Prelude.{◌≡◌};
 ghost use Rattle.std.specs.Str.{bytes_eq};
-ghost use Rattle.bes_suite.specs.Commands.{command_in, command_named, command_of, dialect_of};
+ghost use Rattle.bes_suite.specs.Commands.{command_in, command_named, command_of, dialect_of, word_at};
 
 use bes_io::Word;
 use form_tokens::Dialect;
@@ -71,12 +71,20 @@ pub fn named_command(count: usize, first: &[u8], second: &[u8]) -> Command
     }
 }
 
+/// The bytes of a word of the command line, and none past the last.
+fn word_at(words: &[Word], i: usize) -> &[u8]
+    ensures { result.now ≡ word_at words.now i }
+{
+    if i < words.len() {
+        words[i].bytes()
+    } else {
+        b""
+    }
+}
+
 /// The command of the words.
 pub fn find_command(words: &[Word]) -> Command
     ensures { result ≡ command_of words.now }
 {
-    if words.len() < 2 {
-        return Command::Usage;
-    }
-    named_command(words.len(), words[0].bytes(), words[1].bytes())
+    named_command(words.len(), word_at(words, 0), word_at(words, 1))
 }

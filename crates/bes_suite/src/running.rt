@@ -4,7 +4,7 @@ ghost use Rattle.forms.specs.Tree.{Formula};
 ghost use Rattle.command_endings.specs.Endings.{status_of};
 ghost use Rattle.command_endings.specs.Reading.{Reads};
 ghost use Rattle.command_endings.specs.Tasks.{Performs};
-ghost use Rattle.command_endings.specs.Worlds.{world};
+ghost use Rattle.command_endings.specs.Worlds.{FileFailed, world};
 ghost use Rattle.command_endings.specs.Writing.{Writes};
 ghost use Rattle.translate_command.specs.Translation.{IsTranslation, IsOnlyTranslation};
 ghost use Rattle.bes_suite.specs.Asked.{task_of};
@@ -38,6 +38,7 @@ fn perform<F: Files, S: Source, O: Sink>(
         Reads S.faults S.IsTaken (task_of words.now) before input.old input.new (status_of result) }
     ensures usage { command_of words.now ≡ Command.Usage → result ≡ Ending.Refused Refusal.Usage }
     ensures unopened { (task_of words.now).file ≡ None → files.new ≡ files.old }
+    ensures unread { FileFailed (task_of words.now).file (F.failed files.old) (F.failed files.new) → input.new ≡ input.old }
 {
     match find_command(words) {
         Command::Usage => Ending::Refused(Refusal::Usage),
@@ -99,8 +100,9 @@ pub fn run<F: Files, S: Source, O: Sink, E: Sink>(
         let after = world (F.contents files.new) (F.failed files.new) (S.left input.new) (S.faults input.new) (O.held out.new) (O.faults out.new) in
         Writes O.IsPut (task_of words.now) before after out.old out.new result.number }
 
-    // Where the input failed, a command that writes as it reads has put what is due for the whole lines that were taken.
-    // Where the output failed, it failed at one line, and fewer than 4,097 bytes were taken past what this line needs.
+    // Of an input that tells its rest: where it failed, a command that writes as it reads has put what is due for the whole
+    // lines that were taken. Where the output failed, it failed at one line, and fewer than 4,097 bytes were taken past what
+    // this line needs.
     ensures streams { let before = world (F.contents files.old) (F.failed files.old) (S.left input.old) (S.faults input.old) (O.held out.old) (O.faults out.old) in
         let after = world (F.contents files.new) (F.failed files.new) (S.left input.new) (S.faults input.new) (O.held out.new) (O.faults out.new) in
         IsStreamed (task_of words.now) before after }
@@ -112,10 +114,11 @@ pub fn run<F: Files, S: Source, O: Sink, E: Sink>(
     // Words that are none of the listed forms are refused whatever memory there is: the status is 2, or 7.
     ensures usage { command_of words.now ≡ Command.Usage → (result.number ≡ 2) ⊎ (result.number ≡ 7) }
 
-    // The names that failed gain the named file at most, and where no file is named the files stay as they are.
+    // The names that failed gain the named file at most, and where no file is named the files stay as they are. Where the
+    // named file failed the input is not asked.
     ensures files { let before = world (F.contents files.old) (F.failed files.old) (S.left input.old) (S.faults input.old) (O.held out.old) (O.faults out.old) in
         let after = world (F.contents files.new) (F.failed files.new) (S.left input.new) (S.faults input.new) (O.held out.new) (O.faults out.new) in
-        KeepsFiles (task_of words.now) before after files.old files.new }
+        KeepsFiles (task_of words.now) before after files.old files.new input.old input.new }
 
     // The input is not asked by a command that reads none, nor where the words, the formula or file, its class counts or
     // the keeping of what it assumes are refused; nor again after it failed. A command that writes as it reads doesn't end
@@ -123,8 +126,8 @@ pub fn run<F: Files, S: Source, O: Sink, E: Sink>(
     ensures reads { let before = world (F.contents files.old) (F.failed files.old) (S.left input.old) (S.faults input.old) (O.held out.old) (O.faults out.old) in
         Reads S.faults S.IsTaken (task_of words.now) before input.old input.new result.number }
 
-    // After an answer a command that reads the input has read it to its end, or, where it stops at its goal, to the line that
-    // met it.
+    // Of an input that tells its rest: after an answer a command that reads it has read it to its end, or, where it stops at
+    // its goal, to the line that met it.
     ensures far { let before = world (F.contents files.old) (F.failed files.old) (S.left input.old) (S.faults input.old) (O.held out.old) (O.faults out.old) in
         let after = world (F.contents files.new) (F.failed files.new) (S.left input.new) (S.faults input.new) (O.held out.new) (O.faults out.new) in
         IsReadSoFar (task_of words.now) before after result.number }

@@ -1,5 +1,5 @@
 -- A formula whose counts are all within the limit.
-use Rattle.std.proofs.Common.{◌≡◌, ℕ, zero, suc, ◌<◌, ◌≤◌, List, length, false, sym, ap, subst, arith, inl, inr}
+use Rattle.std.proofs.Common.{◌≡◌, ℕ, zero, suc, ◌<◌, ◌≤◌, List, length, Bool, false, sym, ap, subst, arith, inl, inr}
 use Rattle.std.specs.Prelude.{All, slice_index}
 use Rattle.std.proofs.lemmas.Bool.{cases_lt}
 use Rattle.std.proofs.lemmas.Option.{slice_get_past}
@@ -24,7 +24,7 @@ use Rattle.command_endings.specs.Worlds.{Contents, World, KeepsCounts}
 use Rattle.command_endings.proofs.FormulaLemmas.{one-formula}
 use Rattle.command_endings.proofs.Performing.{refusal, no-memory}
 use Rattle.command_endings.proofs.ReadingLemmas.{late}
-use Rattle.class_limit.specs.Limits.{most_classes, ending_at_limit, AreWithin, IsFormulaWithinLimit}
+use Rattle.class_limit.specs.Limits.{most_classes, ending_at_limit, AreWithin, AreFew, IsFormulaWithinLimit}
 
 -- there is no part after the last, so what is counted there is the whole
 whole-count : (p : ℕ) (f : Formula) (count : ℕ) → HasClassCount p (λ w. meets p f w) count → HasCount p f false (suc (length (parts f))) count
@@ -43,20 +43,20 @@ module _ (p : ℕ) (f : Formula) (counts : List ℕ) (whole : ℕ) (counted : Ar
       ]
 
   -- each part and the whole are within the limit
-  pub all-within : (names : List (List ℕ)) → p ≡ length names → AreWithin names f
+  pub all-within : (names : List (List ℕ)) → p ≡ length names → AreFew names f
   all-within names e k some last = subst (λ q. IsWithin q f false most_classes k) e (within-at k some last)
 
 -- a formula with a part over the limit is not within it
-pub over-or-within : (names : List (List ℕ)) (f : Formula) (part count : ℕ) → IsFirstOver (length names) f false most_classes part count → AreWithin names f → ⊥
+pub over-or-within : {limit : ℕ} {empty : Bool} (names : List (List ℕ)) (f : Formula) (part count : ℕ) → IsFirstOver (length names) f empty limit part count → AreWithin limit empty names f → ⊥
 over-or-within names f part count over within =
     let w = within part over.some over.last in
     let same = class_count_is_one (length names) _ count w.count over.has w.has in
     omega (arith, same, over.over, w.within)
 
 -- a formula that was translated is within the limit
-pub within_limit : (dialect : Dialect) (text : List ℕ) (names : List (List ℕ)) (f : Formula) → IsFormula dialect text f → names ≡ names_of dialect text → AreWithin names f
+pub within_limit : (dialect : Dialect) (text : List ℕ) (names : List (List ℕ)) (f : Formula) → IsFormula dialect text f → names ≡ names_of dialect text → AreFew names f
     → IsFormulaWithinLimit dialect text
-within_limit dialect text names f is same within = (f, is, subst (λ n. AreWithin n f) same within)
+within_limit dialect text names f is same within = (f, is, subst (λ n. AreFew n f) same within)
 
 -- a limit that is passed is no answer
 pub no-answer-at-limit : (c : Concern) (limit : ℕ) (fault : TranslateFault) → status_of (ending_at_limit c limit fault) < 2 → ⊥

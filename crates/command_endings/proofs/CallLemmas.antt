@@ -2,7 +2,7 @@
 use Rattle.std.proofs.Common.{◌≡◌, ℕ, ◌<◌, ◌≤◌, lit≤, inl, inr, List, [], ◌∷◌, ◌++◌, refl, subst, arith}
 use Rattle.std.proofs.lemmas.List.Elements.{All-nil, All-push}
 use Rattle.command_endings.specs.Replies.{Reply}
-use Rattle.command_endings.specs.Calls.{IsPutOnce, IsReplyPut, PutsReply, PutsEach, IsWholeLine, PutsLines}
+use Rattle.command_endings.specs.Calls.{IsReplyPut, PutsReply, PutsEach, IsWholeLine, PutsLines}
 use Rattle.command_endings.specs.Endings.{refusal_status}
 use Rattle.command_endings.specs.declared.endings.Refusal.{Refusal}
 use Rattle.command_endings.specs.declared.endings.Refusal.TheVariants.{Usage, Formula, Specification, TooMany, Breakable, NoEvent, Event, NotLegal, LineTooLong, InputTooLong}

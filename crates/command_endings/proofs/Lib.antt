@@ -1,5 +1,6 @@
 pub mod FormulaLemmas
 pub mod CallLemmas
 pub mod Performing
+mod ToyTasks
 pub mod WritingLemmas
 pub mod ReadingLemmas

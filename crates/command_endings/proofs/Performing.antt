@@ -1,8 +1,7 @@
 -- What a command does, put together from its parts.
-use Rattle.std.proofs.Common.{◌≡◌, ◌≢◌, ℕ, ◌<◌, ◌⊎◌, inl, inr, List, [], ◌++◌, sym, refl, ◌∙◌, ap, subst, arith, Option, Some, None, Bool, true, false, IsTrue, take}
+use Rattle.std.proofs.Common.{◌≡◌, ◌≢◌, ℕ, ◌<◌, inl, inr, List, [], sym, refl, ◌∙◌, ap, subst, arith, Option, Some, None, Bool, true, false}
 use Rattle.std.proofs.lemmas.List.{append-nil}
 use Rattle.std.specs.Io.KnownBytes.{append_known}
-use Rattle.bes_io.specs.Causes.{Rose}
 use Rattle.form_tokens.specs.declared.dialect.Dialect.{Dialect}
 use Rattle.form_reader.specs.declared.fault.FormFault.{FormFault}
 use Rattle.command_endings.specs.declared.endings.Ending.{Ending}
@@ -32,7 +31,7 @@ pub not-needed : (b : Bool) (A : Type 0) → b ≡ false → IfNeeded b A
 not-needed b A off = subst (λ c. IfNeeded c A) (sym off) tt
 
 -- where no count rose, nothing is asked for of what streams
-pub streams-kept : (replies : List ℕ → Reply → Type 0) (rest : List ℕ) (before after : World) → after.reads ≡ before.reads → after.puts ≡ before.puts → Streams replies rest before after
+pub streams-kept : (replies : List ℕ → Reply → Type 0) (rest : List ℕ) (before after : World) → after.input_faults ≡ before.input_faults → after.output_faults ≡ before.output_faults → Streams replies rest before after
 streams-kept replies rest before after reads puts = record { reads = λ rose. absurd (omega (arith, rose, reads)); puts = λ rose. absurd (omega (arith, rose, puts)) }
 
 -- where there is no answer, nothing is asked for of how far the input was read
@@ -74,7 +73,7 @@ module _ (task : Task) (before after : World) where
   pub replied : (ending : Ending) → ending ≢ OutsideFault
       → ((files : Contents) (rest : List ℕ) → Tells task before files rest → Gives (task.answers files rest) before after ending)
       → KeepsCounts before after → ReadsFar task.reads task.to_end before after (status_of ending)
-      → ((files : Contents) (rest : List ℕ) → Tells task before files rest → ReadsToGoal task.reads task.to_end (task.answers files) rest after (status_of ending))
+      → ((files : Contents) (rest : List ℕ) → Tells task before files rest → before.left ≡ Some rest → ReadsToGoal task.reads task.to_end (task.answers files) rest after (status_of ending))
       → Performs task before after ending
   replied ending sound gives keeps far goal = record {
     adds = λ files rest tells. adds-given (task.answers files rest) before after ending sound (gives files rest tells);
@@ -82,7 +81,7 @@ module _ (task : Task) (before after : World) where
     gains = inl keeps.failed;
     far = far;
     at_goal = goal;
-    streams = if-needed task.streams _ (λ files rest tells. streams-kept (task.answers files) rest before after keeps.reads keeps.puts);
+    streams = if-needed task.streams _ (λ files rest tells left. streams-kept (task.answers files) rest before after keeps.input_faults keeps.output_faults);
   }
 
   -- a refusal that adds nothing to the output, after which no count has risen
@@ -91,7 +90,7 @@ module _ (task : Task) (before after : World) where
   refusal r asked keeps held = replied (Refused r) (λ e. cc)
       (λ files rest tells. record { reply = refusing r; asked = asked files rest tells; added = held ∙ append-nothing before.held; ends = refl })
       keeps (far-none task.reads task.to_end before after (refusal_status r) (refused-few r))
-      (λ files rest tells. goal-none task.reads task.to_end (task.answers files) rest after (refusal_status r) (refused-few r))
+      (λ files rest tells left. goal-none task.reads task.to_end (task.answers files) rest after (refusal_status r) (refused-few r))
 
   -- want of memory, after which no count has risen
   pub no-memory : KeepsCounts before after → Performs task before after NoMemory
@@ -100,21 +99,21 @@ module _ (task : Task) (before after : World) where
     counts = keeps;
     gains = inl keeps.failed;
     far = far-none task.reads task.to_end before after 8 no-answer-8;
-    at_goal = λ files rest tells. goal-none task.reads task.to_end (task.answers files) rest after 8 no-answer-8;
-    streams = if-needed task.streams _ (λ files rest tells. streams-kept (task.answers files) rest before after keeps.reads keeps.puts);
+    at_goal = λ files rest tells left. goal-none task.reads task.to_end (task.answers files) rest after 8 no-answer-8;
+    streams = if-needed task.streams _ (λ files rest tells left. streams-kept (task.answers files) rest before after keeps.input_faults keeps.output_faults);
   }
 
   -- a fault of the outside, which has its cause
   pub failed : ((files : Contents) (rest : List ℕ) → Tells task before files rest → AddsPrefix (task.answers files rest) before after)
       → HasFault task before after → Gains task.file before.failed after.failed
-      → IfNeeded task.streams ((files : Contents) (rest : List ℕ) → Tells task before files rest → Streams (task.answers files) rest before after)
+      → IfNeeded task.streams ((files : Contents) (rest : List ℕ) → Tells task before files rest → before.left ≡ Some rest → Streams (task.answers files) rest before after)
       → Performs task before after OutsideFault
   failed adds cause gains streams = record {
     adds = adds;
     counts = cause;
     gains = gains;
     far = far-none task.reads task.to_end before after 7 no-answer-7;
-    at_goal = λ files rest tells. goal-none task.reads task.to_end (task.answers files) rest after 7 no-answer-7;
+    at_goal = λ files rest tells left. goal-none task.reads task.to_end (task.answers files) rest after 7 no-answer-7;
     streams = streams;
   }
 
@@ -132,13 +131,13 @@ module _ (task : Task) (before after : World) where
   -- the whole output of a command that doesn't write as it reads was put, or a part of it at a fault
   pub output-put : (text : List ℕ) (ending : Ending) → ending ≢ OutsideFault → task.streams ≡ false
       → ((files : Contents) (rest : List ℕ) → Tells task before files rest → task.answers files rest (record { output = text; ending = ending }))
-      → after.reads ≡ before.reads → after.failed ≡ before.failed → ReadsFar task.reads task.to_end before after (status_of ending)
-      → ((files : Contents) (rest : List ℕ) → Tells task before files rest → ReadsToGoal task.reads task.to_end (task.answers files) rest after (status_of ending))
-      → (result : Ending) → PutsAll text ending before.held before.puts after.held after.puts result → Performs task before after result
+      → after.input_faults ≡ before.input_faults → after.failed ≡ before.failed → ReadsFar task.reads task.to_end before after (status_of ending)
+      → ((files : Contents) (rest : List ℕ) → Tells task before files rest → before.left ≡ Some rest → ReadsToGoal task.reads task.to_end (task.answers files) rest after (status_of ending))
+      → (result : Ending) → PutsAll text ending before.held before.output_faults after.held after.output_faults result → Performs task before after result
   output-put text ending sound off asked reads same far goal result (inl (ended, added, puts)) =
       subst (Performs task before after) (sym ended) (replied ending sound
       (λ files rest tells. record { reply = record { output = text; ending = ending }; asked = asked files rest tells; added = added; ends = refl })
-      (record { reads = reads; puts = puts; failed = same }) far goal)
+      (record { input_faults = reads; output_faults = puts; failed = same }) far goal)
   output-put text ending sound off asked reads same far goal result (inr (ended, part, rose)) =
       subst (Performs task before after) (sym ended) (failed
       (λ files rest tells. inr (record { output = text; ending = ending }, asked files rest tells, part.0, part.1))

@@ -1,5 +1,5 @@
 -- What a command makes of its input, put together from its calls.
-use Rattle.std.proofs.Common.{◌≡◌, ℕ, ◌<◌, ◌⊎◌, inl, inr, IsTrue, false, true, sym, subst, arith, Some, List}
+use Rattle.std.proofs.Common.{◌≡◌, ℕ, ◌<◌, ◌⊎◌, inl, inr, IsTrue, true, sym, subst, arith, Some, List}
 use Rattle.bes_io.specs.Asking.{IsAsked, unasked}
 use Rattle.forms.specs.Tree.{Formula}
 use Rattle.form_tokens.specs.declared.dialect.Dialect.{Dialect}

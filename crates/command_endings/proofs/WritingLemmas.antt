@@ -1,9 +1,7 @@
 -- What a command makes of its output, put together from its calls.
 use Rattle.std.proofs.Common.{◌≡◌, ◌≢◌, ℕ, ◌<◌, inl, inr, List, [], sym, arith, false, ap, ◌∙◌}
 use Rattle.command_endings.specs.declared.endings.Ending.{Ending}
-use Rattle.command_endings.specs.declared.endings.Ending.TheVariants.{OutsideFault}
 use Rattle.command_endings.specs.Endings.{status_of}
-use Rattle.command_endings.specs.Replies.{Reply}
 use Rattle.command_endings.specs.Tasks.{Task, Tells, PutsAll}
 use Rattle.command_endings.specs.Worlds.{Contents, World}
 use Rattle.command_endings.specs.Writing.{Writes}
@@ -24,7 +22,7 @@ module _ {O : Type 0} (put : O → List ℕ → O → Type 0) (task : Task) (bef
   -- a whole output, which is not empty, was put in one call
   pub writes-reply : (text : List ℕ) (ending : Ending) (number : ℕ) → task.streams ≡ false
       → ((files : Contents) (rest : List ℕ) → Tells task before files rest → task.answers files rest (record { output = text; ending = ending }))
-      → text ≢ [] → number ≢ 8 → after.reads ≡ before.reads → put old text new → Writes put task before after old new number
+      → text ≢ [] → number ≢ 8 → after.input_faults ≡ before.input_faults → put old text new → Writes put task before after old new number
   writes-reply text ending number off asked some served reads call = record {
     silent = λ files rest tells due. absurd (some (due (record { output = text; ending = ending }) (asked files rest tells)));
     nothing = λ is. absurd (served is);
@@ -36,6 +34,6 @@ module _ {O : Type 0} (put : O → List ℕ → O → Type 0) (task : Task) (bef
 
 -- an output that was put is none that memory ran out at
 pub put-served : (text : List ℕ) (ending : Ending) (before : World) (after : World) (result : Ending) → status_of ending ≢ 8
-    → PutsAll text ending before.held before.puts after.held after.puts result → status_of result ≢ 8
+    → PutsAll text ending before.held before.output_faults after.held after.output_faults result → status_of result ≢ 8
 put-served text ending before after result served (inl p) is = served (ap status_of (sym p.0) ∙ is)
 put-served text ending before after result served (inr p) is = let e : status_of result ≡ 7 = ap status_of p.0 in omega (arith, e, is)

@@ -68,5 +68,5 @@ pub record StopsWriting (replies : List ℕ → Reply → Type 0) (rest : List �
 
 -- what stands where the count of the input rose, or that of the output
 pub record Streams (replies : List ℕ → Reply → Type 0) (rest : List ℕ) (before after : World) : Type 0 where
-  pub reads : before.reads < after.reads → StopsReading replies rest before after
-  pub puts : before.puts < after.puts → StopsWriting replies rest before after
+  pub reads : before.input_faults < after.input_faults → StopsReading replies rest before after
+  pub puts : before.output_faults < after.output_faults → StopsWriting replies rest before after

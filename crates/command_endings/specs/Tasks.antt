@@ -1,5 +1,5 @@
 -- A command as data, and what one does to the files, the input and the output.
-use Rattle.std.specs.Prelude.{◌≡◌, ℕ, ◌⊎◌, Bool, true, false, List, [], take, Option, Some, None}
+use Rattle.std.specs.Prelude.{◌≡◌, ℕ, ◌⊎◌, Bool, List, [], take, Option, Some}
 use Rattle.std.specs.Io.KnownBytes.{append_known}
 use Rattle.bes_io.specs.Causes.{Rose}
 use Rattle.command_endings.specs.declared.endings.Ending.{Ending}
@@ -55,8 +55,8 @@ Adds replies before after ending = Gives replies before after ending
 
 -- a fault has its cause: the input where it came to be asked, the output, or the named file
 abbrev pub HasFault : Task → World → World → Type 0
-HasFault task before after = (task.may_read before.contents × Rose before.reads after.reads)
-    ⊎ (Rose before.puts after.puts ⊎ FileFailed task.file before.failed after.failed)
+HasFault task before after = (task.may_read before.contents × Rose before.input_faults after.input_faults)
+    ⊎ (Rose before.output_faults after.output_faults ⊎ FileFailed task.file before.failed after.failed)
 
 -- a fault has its cause, and else no count rose
 abbrev pub Counts : Task → World → World → Ending → Type 0
@@ -65,14 +65,14 @@ Counts task before after ending = KeepsCounts before after
 
 -- What a command does to the world, whatever it is, and how the run ends: what the output gained, that a fault has its
 -- cause, which file failed, how far the input was read, and, of a command that writes as it reads, what it has read and
--- written where the outside fails.
+-- written where the outside fails. What is left of the input is spoken of only where the input tells its rest.
 pub record Performs (task : Task) (before after : World) (ending : Ending) : Type 0 where
   pub adds : (files : Contents) (rest : List ℕ) → Tells task before files rest → Adds (task.answers files rest) before after ending
   pub counts : Counts task before after ending
   pub gains : Gains task.file before.failed after.failed
   pub far : ReadsFar task.reads task.to_end before after (status_of ending)
-  pub at_goal : (files : Contents) (rest : List ℕ) → Tells task before files rest → ReadsToGoal task.reads task.to_end (task.answers files) rest after (status_of ending)
-  pub streams : IfNeeded task.streams ((files : Contents) (rest : List ℕ) → Tells task before files rest → Streams (task.answers files) rest before after)
+  pub at_goal : (files : Contents) (rest : List ℕ) → Tells task before files rest → before.left ≡ Some rest → ReadsToGoal task.reads task.to_end (task.answers files) rest after (status_of ending)
+  pub streams : IfNeeded task.streams ((files : Contents) (rest : List ℕ) → Tells task before files rest → before.left ≡ Some rest → Streams (task.answers files) rest before after)
 
 -- One put of a whole output: it was added and the run ends as it was to end, or a prefix was added at a fault.
 abbrev pub PutsAll : List ℕ → Ending → Option (List ℕ) → ℕ → Option (List ℕ) → ℕ → Ending → Type 0

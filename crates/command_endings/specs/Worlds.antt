@@ -11,14 +11,14 @@ pub record World : Type 0 where
   pub contents : Option Contents
   pub failed : List (List ℕ)
   pub left : Option (List ℕ)
-  pub reads : ℕ
+  pub input_faults : ℕ
   pub held : Option (List ℕ)
-  pub puts : ℕ
+  pub output_faults : ℕ
 
 -- the world of these parts
 abbrev pub world : Option Contents → List (List ℕ) → Option (List ℕ) → ℕ → Option (List ℕ) → ℕ → World
-world contents failed left reads held puts =
-    record { contents = contents; failed = failed; left = left; reads = reads; held = held; puts = puts }
+world contents failed left input_faults held output_faults =
+    record { contents = contents; failed = failed; left = left; input_faults = input_faults; held = held; output_faults = output_faults }
 
 -- a fact that is asked for only where it is needed
 abbrev pub IfNeeded : Bool → Type 0 → Type 0
@@ -41,6 +41,6 @@ Gains file before after = (after ≡ before) ⊎ FileFailed file before after
 
 -- no count rose
 pub record KeepsCounts (before after : World) : Type 0 where
-  pub reads : after.reads ≡ before.reads
-  pub puts : after.puts ≡ before.puts
+  pub input_faults : after.input_faults ≡ before.input_faults
+  pub output_faults : after.output_faults ≡ before.output_faults
   pub failed : after.failed ≡ before.failed

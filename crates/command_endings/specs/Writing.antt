@@ -10,7 +10,7 @@ use Rattle.command_endings.specs.Worlds.{Contents, World}
 pub record Writes {O : Type 0} (put : O → List ℕ → O → Type 0) (task : Task) (before after : World) (old new : O) (number : ℕ) : Type 0 where
   pub silent : (files : Contents) (rest : List ℕ) → Tells task before files rest → NoOutputIsDue (task.answers files rest) → new ≡ old
   pub nothing : number ≡ 8 → new ≡ old
-  pub unwritten : task.streams ≡ false → before.reads < after.reads → new ≡ old
+  pub unwritten : task.streams ≡ false → before.input_faults < after.input_faults → new ≡ old
   pub once : task.streams ≡ false → IsPutOnce put old new
   pub written : (files : Contents) (rest : List ℕ) → Tells task before files rest → task.streams ≡ false → PutsReply put (task.answers files rest) old new number
   pub lines : IsTrue task.streams → PutsLines put old new

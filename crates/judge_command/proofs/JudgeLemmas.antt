@@ -9,9 +9,7 @@ use Rattle.command_endings.specs.declared.endings.Ending.TheVariants.{Positive, 
 use Rattle.command_endings.specs.declared.endings.Refusal.{Refusal}
 use Rattle.command_endings.specs.declared.endings.Refusal.TheVariants as refusal
 use Rattle.command_endings.specs.Endings.{status_of, IsUnread}
-use Rattle.command_endings.specs.Far.{ReadsAll}
 use Rattle.command_endings.specs.Formulas.{IsFormula, names_of}
-use Rattle.command_endings.specs.Reading.{Reads}
 use Rattle.command_endings.specs.Replies.{refusing}
 use Rattle.command_endings.specs.Tasks.{Tells, Performs, PutsAll}
 use Rattle.command_endings.specs.Worlds.{Contents, World}
@@ -21,7 +19,7 @@ use Rattle.command_endings.proofs.Performing.{refusal, no-memory, failed, output
 use Rattle.command_endings.proofs.ReadingLemmas.{late}
 use Rattle.command_endings.proofs.WritingLemmas.{writes-reply, put-served}
 use Rattle.input_letters.specs.Letters.{GivesTrace, HasTraceCause}
-use Rattle.judge_command.specs.Judge.{JudgeAnswers, input_refused, no_event, judged, answer_reply, IsJudged, IsInputRefused, GivesAnswer, judge_task}
+use Rattle.judge_command.specs.Judge.{JudgeAnswers, input_refused, judged, answer_reply, IsJudged, IsInputRefused, GivesAnswer, judge_task}
 
 -- what ends reading the trace ends judging
 pub gives-ending : (names : List (List ℕ)) (claim : Claim) (rest : List ℕ) (ending : Ending) (left : Option (List ℕ)) → GivesTrace names rest (Err ending) left
@@ -65,7 +63,7 @@ answer-early : (answer : Bool) → ¬ IsUnread (status_of (answer_reply answer).
 answer-early true u = late 0 (inl (omega arith)) u
 answer-early false u = late 1 (inl (omega arith)) u
 
-pub put-early : (answer : Bool) (before after : World) (result : Ending) → PutsAll (answer_reply answer).output (answer_reply answer).ending before.held before.puts after.held after.puts result
+pub put-early : (answer : Bool) (before after : World) (result : Ending) → PutsAll (answer_reply answer).output (answer_reply answer).ending before.held before.output_faults after.held after.output_faults result
     → ¬ IsUnread (status_of result)
 put-early answer before after result (inl p) = subst (λ e. ¬ IsUnread (status_of e)) (sym p.0) (answer-early answer)
 put-early answer before after result (inr p) = subst (λ e. ¬ IsUnread (status_of e)) (sym p.0) (late 7 (inr (omega arith)))
@@ -76,33 +74,32 @@ module _ (dialect : Dialect) (text : List ℕ) (f : Formula) (is : IsFormula dia
   traces = λ w. meets (length (names_of dialect text)) f w
 
   refused-reply : (rest : List ℕ) (r : Refusal) → IsInputRefused (names_of dialect text) rest r → JudgeAnswers dialect text rest (refusing r)
-  refused-reply rest r (inl (lines, stop, has, first)) = input_refused is has first
-  refused-reply rest r (inr (has, none)) = subst (λ r. JudgeAnswers dialect text rest (refusing r)) (sym none) (no_event is has)
+  refused-reply rest r refused = input_refused is refused
 
   -- the answer on an input is its reply
   judged-reply : (rest : List ℕ) (answer : Bool) → IsJudged (names_of dialect text) traces rest answer → JudgeAnswers dialect text rest (answer_reply answer)
-  judged-reply rest answer j = subst (λ b. JudgeAnswers dialect text rest (answer_reply b)) (sym j.meets) (judged j.letter j.word is j.has j.events)
+  judged-reply rest answer j = judged is j
 
   module _ (before after : World) (same : after.failed ≡ before.failed) where
     -- the input gives no answer
     pub input-ends : (ending : Ending) → ((rest : List ℕ) → before.left ≡ Some rest → GivesAnswer (names_of dialect text) traces rest (Err ending) after.left)
-        → HasTraceCause {T = Bool} before.reads after.reads (Err ending) → after.puts ≡ before.puts → after.held ≡ before.held → Performs (judge_task dialect text) before after ending
+        → HasTraceCause {T = Bool} before.input_faults after.input_faults (Err ending) → after.output_faults ≡ before.output_faults → after.held ≡ before.held → Performs (judge_task dialect text) before after ending
     input-ends Positive gives cause puts held = absurd cause
     input-ends Negative gives cause puts held = absurd cause
-    input-ends NoMemory gives cause puts held = no-memory (judge_task dialect text) before after (record { reads = cause; puts = puts; failed = same })
+    input-ends NoMemory gives cause puts held = no-memory (judge_task dialect text) before after (record { input_faults = cause; output_faults = puts; failed = same })
     input-ends (Refused r) gives cause puts held =
-        refusal (judge_task dialect text) before after r (λ files rest tells. refused-reply rest r (gives rest (tells.told_input (f, is)))) (record { reads = cause; puts = puts; failed = same }) held
+        refusal (judge_task dialect text) before after r (λ files rest tells. refused-reply rest r (gives rest (tells.told_input (f, is)))) (record { input_faults = cause; output_faults = puts; failed = same }) held
     input-ends OutsideFault gives cause puts held = failed (judge_task dialect text) before after (λ files rest tells. inl held) (inl ((f, is), cause)) (inl same) tt
 
     module _ (answer : Bool) (gives : (rest : List ℕ) → before.left ≡ Some rest → GivesAnswer (names_of dialect text) traces rest (Ok answer) after.left)
-        (reads : after.reads ≡ before.reads) (result : Ending) (put : PutsAll (answer_reply answer).output (answer_reply answer).ending before.held before.puts after.held after.puts result) where
+        (reads : after.input_faults ≡ before.input_faults) (result : Ending) (put : PutsAll (answer_reply answer).output (answer_reply answer).ending before.held before.output_faults after.held after.output_faults result) where
       asked : (files : Contents) (rest : List ℕ) → Tells (judge_task dialect text) before files rest → JudgeAnswers dialect text rest (answer_reply answer)
       asked files rest tells = judged-reply rest answer (gives rest (tells.told_input (f, is))).1
 
       -- the answer was put, or the sink failed
       pub answer-put : Performs (judge_task dialect text) before after result
       answer-put = output-put (judge_task dialect text) before after (answer_reply answer).output (answer_reply answer).ending (answer-sound answer) refl asked reads same
-          (far-all before after (status_of (answer_reply answer).ending) (λ rest told. (gives rest told).0)) (λ files rest tells on off. cc) result put
+          (far-all before after (status_of (answer_reply answer).ending) (λ rest told. (gives rest told).0)) (λ files rest tells known on off. cc) result put
 
       -- in one call
       pub answer-written : {O : Type 0} (call : O → List ℕ → O → Type 0) (old new : O) → call old (answer_reply answer).output new

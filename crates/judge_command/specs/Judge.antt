@@ -39,15 +39,11 @@ IsInputRefused names rest r =
 pub data JudgeAnswers : Dialect → List ℕ → List ℕ → Reply → Type 0 where
   formula_refused : {dialect : Dialect} {text rest : List ℕ} {fault : FormFault} →
       IsRefused dialect text fault → JudgeAnswers dialect text rest (refusing (refusal.Formula fault))
-  input_refused : {dialect : Dialect} {text rest : List ℕ} {f : Formula} {lines : List (List ℕ)} {stop : Stop} {r : Refusal} →
-      IsFormula dialect text f → HasLines most_input rest lines stop →
-      trace_refusal (names_of dialect text) 1 lines stop ≡ Some r → JudgeAnswers dialect text rest (refusing r)
-  no_event : {dialect : Dialect} {text rest : List ℕ} {f : Formula} →
-      IsFormula dialect text f → HasLines most_input rest [] at_end → JudgeAnswers dialect text rest (refusing refusal.NoEvent)
-  judged : {dialect : Dialect} {text rest : List ℕ} {f : Formula} {lines : List (List ℕ)} (letter : ℕ) (word : List ℕ) →
-      IsFormula dialect text f → HasLines most_input rest lines at_end →
-      AreEvents (names_of dialect text) lines (letter ∷ word) →
-      JudgeAnswers dialect text rest (answer_reply (meets_trace (length (names_of dialect text)) f (letter ∷ word)))
+  input_refused : {dialect : Dialect} {text rest : List ℕ} {f : Formula} {r : Refusal} →
+      IsFormula dialect text f → IsInputRefused (names_of dialect text) rest r → JudgeAnswers dialect text rest (refusing r)
+  judged : {dialect : Dialect} {text rest : List ℕ} {f : Formula} {answer : Bool} →
+      IsFormula dialect text f → IsJudged (names_of dialect text) (λ w. meets_trace (length (names_of dialect text)) f w) rest answer →
+      JudgeAnswers dialect text rest (answer_reply answer)
 
 -- what judging the input gives: the answer, or what is refused first
 abbrev pub GivesAnswer : List (List ℕ) → Claim → List ℕ → Result Bool Ending → Option (List ℕ) → Type 0

@@ -61,11 +61,11 @@ module _ (some all : List ℕ → Reply → Type 0) (more : (bytes : List ℕ) (
   }
 
 -- the source alone failed
-pub streams-read : (replies : List ℕ → Reply → Type 0) (rest : List ℕ) (before after : World) → after.puts ≡ before.puts → StopsReading replies rest before after → Streams replies rest before after
+pub streams-read : (replies : List ℕ → Reply → Type 0) (rest : List ℕ) (before after : World) → after.output_faults ≡ before.output_faults → StopsReading replies rest before after → Streams replies rest before after
 streams-read replies rest before after puts stops = record { reads = λ rose. stops; puts = λ rose. absurd (omega (arith, rose, puts)) }
 
 -- the sink alone failed
-pub streams-put : (replies : List ℕ → Reply → Type 0) (rest : List ℕ) (before after : World) → after.reads ≡ before.reads → StopsWriting replies rest before after → Streams replies rest before after
+pub streams-put : (replies : List ℕ → Reply → Type 0) (rest : List ℕ) (before after : World) → after.input_faults ≡ before.input_faults → StopsWriting replies rest before after → Streams replies rest before after
 streams-put replies rest before after reads stops = record { reads = λ rose. absurd (omega (arith, rose, reads)); puts = λ rose. stops }
 
 module _ (dialect : Dialect) (text : List ℕ) (names : List (List ℕ)) (claim : Claim) (within : IsFormulaWithinLimit dialect text)
@@ -101,6 +101,6 @@ module _ (dialect : Dialect) (text : List ℕ) (names : List (List ℕ)) (claim 
     counts = counts-more ending p.counts;
     gains = p.gains;
     far = p.far;
-    at_goal = λ files rest tells on off. cc;
-    streams = λ files rest tells. streams-more (IsMonitored names claim) (MonitorAnswers dialect text) more rest before after (p.streams files rest (tells-more files rest tells));
+    at_goal = λ files rest tells left on off. cc;
+    streams = λ files rest tells left. streams-more (IsMonitored names claim) (MonitorAnswers dialect text) more rest before after (p.streams files rest (tells-more files rest tells) left);
   }

@@ -65,27 +65,27 @@ module _ (s : Diagrams) (names : List (List ℕ)) (f : Claim) (before after : Wo
   answered q e bytes is = subst (λ q. NextLetter names n reader bytes q new after.left) e (tells bytes is)
 
   -- the input ended
-  pub run-ends : r ≡ Ok None → after.reads ≡ before.reads → after.puts ≡ before.puts → after.held ≡ held → (ending : Ending) → ending ≡ ending_after last → Runs ending
+  pub run-ends : r ≡ Ok None → after.input_faults ≡ before.input_faults → after.output_faults ≡ before.output_faults → after.held ≡ held → (ending : Ending) → ending ≡ ending_after last → Runs ending
   run-ends e reads puts kept ending is = subst Runs (sym is) (replied (monitored_task names f) before after (ending_after last) (no-fault-after last)
       (λ files rest tells. let w = told rest (tells.told_input tt) in ends-well s names f rest before after reader new left m n last held w (answered (Ok None) e w.bytes w.input_left) kept)
-      (record { reads = reads; puts = puts; failed = same })
+      (record { input_faults = reads; output_faults = puts; failed = same })
       (far-all before after (status_of (ending_after last)) (λ rest t. let w = told rest t in ends-at s names f rest before after reader new left m n last held w (answered (Ok None) e w.bytes w.input_left)))
-      (λ files rest tells on off. cc))
+      (λ files rest tells left on off. cc))
 
-  module _ (ready : IsReady s m) (props : s.props ≡ length names) (puts : after.puts ≡ before.puts) (kept : after.held ≡ held) where
+  module _ (ready : IsReady s m) (props : s.props ≡ length names) (puts : after.output_faults ≡ before.output_faults) (kept : after.held ≡ held) where
     -- the next line was refused, or the source failed, and then what is due for its whole lines was put
-    pub run-stops : (ending : Ending) → r ≡ Err ending → HasTraceCause {T = List ℕ} before.reads after.reads (Err ending) → ending ≢ NoMemory → Runs ending
+    pub run-stops : (ending : Ending) → r ≡ Err ending → HasTraceCause {T = List ℕ} before.input_faults after.input_faults (Err ending) → ending ≢ NoMemory → Runs ending
     run-stops Positive e cause memory = absurd cause
     run-stops Negative e cause memory = absurd cause
     run-stops NoMemory e cause memory = absurd (memory refl)
     run-stops (Refused x) e cause memory =
         replied (monitored_task names f) before after (Refused x) (λ e. cc)
         (λ files rest tells. let w = told rest (tells.told_input tt) in ends-refused s names f rest before after reader new left m n last held w x (answered (Err (Refused x)) e w.bytes w.input_left) kept)
-        (record { reads = cause; puts = puts; failed = same }) (far-none true true before after (refusal_status x) (refused-few x)) (λ files rest tells on off. cc)
+        (record { input_faults = cause; output_faults = puts; failed = same }) (far-none true true before after (refusal_status x) (refused-few x)) (λ files rest tells left on off. cc)
     run-stops OutsideFault e cause memory =
         failed (monitored_task names f) before after
         (λ files rest tells. fails-reading s names f rest before after reader new left m n last held (told rest (tells.told_input tt)) ready props kept) (inl (tt, cause)) (inl same)
-        (λ files rest tells. let w = told rest (tells.told_input tt) in
+        (λ files rest tells known. let w = told rest known in
         streams-read (IsMonitored names f) rest before after puts
         (stops-reading s names f rest before after reader new left m n last held w ready props (answered (Err OutsideFault) e w.bytes w.input_left) kept))
 
@@ -95,11 +95,11 @@ module _ (s : Diagrams) (names : List (List ℕ)) (f : Claim) (before after : Wo
     found-letter rest t = answered (Ok (Some letter)) e (told rest t).bytes (told rest t).input_left
 
     -- the sink failed at one line
-    pub run-unheard : Rose before.puts after.puts → after.reads ≡ before.reads → Runs OutsideFault
+    pub run-unheard : Rose before.output_faults after.output_faults → after.input_faults ≡ before.input_faults → Runs OutsideFault
     run-unheard rose reads =
         failed (monitored_task names f) before after
         (λ files rest tells. let t = tells.told_input tt in
         fails-writing s names f rest before after reader new left m n last held (told rest t) ready props letter (found-letter rest t) v verdict put.0 put.1)
         (inr (inl rose)) (inl same)
-        (λ files rest tells. let t = tells.told_input tt in streams-put (IsMonitored names f) rest before after reads
+        (λ files rest tells t. streams-put (IsMonitored names f) rest before after reads
         (stops-writing s names f rest before after reader new left m n last held (told rest t) ready props letter (found-letter rest t) v verdict put.0 put.1))

@@ -9,7 +9,7 @@ use Rattle.forms.specs.Word.{Word, Claim}
 use Rattle.form_tokens.specs.declared.dialect.Dialect.{Dialect}
 use Rattle.translate.specs.Counting.{IsFirstOver}
 use Rattle.translate.proofs.CountLemmas.{first_over_is_one}
-use Rattle.class_limit.specs.Limits.{most_classes, AreWithin, IsFormulaWithinLimit}
+use Rattle.class_limit.specs.Limits.{most_classes, AreFew, IsFormulaWithinLimit}
 use Rattle.class_limit.proofs.LimitLemmas.{over-or-within}
 use Rattle.command_endings.specs.declared.endings.Concern.TheVariants as concern
 use Rattle.command_endings.specs.declared.endings.Ending.{Ending}
@@ -39,7 +39,7 @@ one-monitoring {dialect = dialect} {text = text} (too_many {f = f} {part = i} {c
     absurd (over-or-within (names_of dialect text) g i m (subst (λ x. IsFirstOver (length (names_of dialect text)) x false most_classes i m) (one-formula dialect text f g a b) h) k)
 one-monitoring {dialect = dialect} {text = text} (monitored a h w) (formula_refused b) = absurd (formula-or-fault dialect text _ _ a b)
 one-monitoring {dialect = dialect} {text = text} (monitored {f = f} a h w) (too_many {f = g} {part = j} {count = n} b k) =
-    absurd (over-or-within (names_of dialect text) g j n k (subst (λ x. AreWithin (names_of dialect text) x) (one-formula dialect text f g a b) h))
+    absurd (over-or-within (names_of dialect text) g j n k (subst (λ x. AreFew (names_of dialect text) x) (one-formula dialect text f g a b) h))
 one-monitoring {dialect = dialect} {text = text} {rest = rest} (monitored {f = f} {reply = c} a h w) (monitored {f = g} b k z) =
     one-monitored (names_of dialect text) (λ w. meets (length (names_of dialect text)) g w)
     (subst (λ x. IsMonitored (names_of dialect text) (λ w. meets (length (names_of dialect text)) x w) rest c) (one-formula dialect text f g a b) w) z

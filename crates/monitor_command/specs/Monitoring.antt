@@ -19,7 +19,7 @@ use Rattle.command_endings.specs.declared.endings.Refusal.TheVariants as refusal
 use Rattle.command_endings.specs.Replies.{Reply, refusing}
 use Rattle.command_endings.specs.Tasks.{Task}
 use Rattle.command_endings.specs.Formulas.{IsFormula, IsRefused, names_of}
-use Rattle.class_limit.specs.Limits.{most_classes, AreWithin, IsFormulaWithinLimit}
+use Rattle.class_limit.specs.Limits.{most_classes, AreFew, IsFormulaWithinLimit}
 use Rattle.input_letters.specs.Traces.{stop_refusal, HasTrace}
 
 -- the most bytes of an input that is monitored
@@ -69,7 +69,7 @@ pub data MonitorAnswers : Dialect → List ℕ → List ℕ → Reply → Type 0
       IsFormula dialect text f → IsFirstOver (length (names_of dialect text)) f false most_classes part count →
       MonitorAnswers dialect text bytes (refusing (refusal.TooMany concern.Formula part count most_classes))
   monitored : {dialect : Dialect} {text bytes : List ℕ} {f : Formula} {reply : Reply} →
-      IsFormula dialect text f → AreWithin (names_of dialect text) f → IsMonitored (names_of dialect text) (λ w. meets (length (names_of dialect text)) f w) bytes reply →
+      IsFormula dialect text f → AreFew (names_of dialect text) f → IsMonitored (names_of dialect text) (λ w. meets (length (names_of dialect text)) f w) bytes reply →
       MonitorAnswers dialect text bytes reply
 
 -- The command as data: it reads the input to its end once the formula is found to be within the limit, and writes as it

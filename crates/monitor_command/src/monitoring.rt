@@ -10,7 +10,7 @@ ghost use Rattle.bes_io.specs.Streams.{Puts};
 ghost use Rattle.monitor.specs.Verdicts.{verdict_of};
 ghost use Rattle.monitor.specs.Configuration.{IsReady};
 ghost use Rattle.translate.specs.Counting.{IfTooMany, IsFirstOver};
-ghost use Rattle.class_limit.specs.Limits.{most_classes, AreWithin};
+ghost use Rattle.class_limit.specs.Limits.{most_classes, AreFew};
 ghost use Rattle.command_endings.specs.Calls.{PutsLines};
 ghost use Rattle.command_endings.specs.Endings.{IsUnread, status_of};
 ghost use Rattle.command_endings.specs.Reading.{Reads};
@@ -45,7 +45,7 @@ struct Opened {
 fn open(alloc: Global, form: &Form, names: &Names) -> Result<Opened, TranslateFault>
     requires proper { IsProper (length names.now.names) (tree form.now) }
     ensures opened { IfOk result (λ opened. IsOpened opened.store opened.monitor names.now.names (λ w. meets (length names.now.names) (tree form.now) w)) }
-    ensures within { OnOk result (AreWithin names.now.names (tree form.now)) }
+    ensures within { OnOk result (AreFew names.now.names (tree form.now)) }
     ensures fault { IfErr result (λ fault. IfTooMany fault (IsFirstOver (length names.now.names) (tree form.now) false most_classes)) }
 {
     let mut store = Store::new(alloc, names.len())?;

@@ -2,6 +2,7 @@ mod LetterLemmas
 pub mod EventLemmas
 mod Outcome
 mod Pieces
+mod EventRuns
 mod Steps
 pub mod FaultPlaces
 pub mod FormulaLemmas

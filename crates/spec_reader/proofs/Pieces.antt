@@ -23,7 +23,7 @@ pieces_from-stray at [] h e f = absurd (omega arith)
 pieces_from-stray at (b ∷ bs) h e f = rw (e, f) (let one : suc at ≡ at + 1 = omega arith in ap (λ k. Stray at ∷ pieces_from zero k bs) one)
 
 -- a run of word bytes
-pieces_from-word : (at : ℕ) (bs : List ℕ) → 0 < length bs → is_blank (get_or bs 0 0) ≡ false → begins_word (get_or bs 0 0) ≡ true → pieces_from zero at bs ≡ run_pieces at (word_length bs) bs (pieces_from zero (at + word_length bs) (drop (word_length bs) bs))
+pub pieces_from-word : (at : ℕ) (bs : List ℕ) → 0 < length bs → is_blank (get_or bs 0 0) ≡ false → begins_word (get_or bs 0 0) ≡ true → pieces_from zero at bs ≡ run_pieces at (word_length bs) bs (pieces_from zero (at + word_length bs) (drop (word_length bs) bs))
 pieces_from-word at [] h e f = absurd (omega arith)
 pieces_from-word at (b ∷ bs) h e f =
     let n = word_length bs in

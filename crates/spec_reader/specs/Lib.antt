@@ -1,4 +1,5 @@
 pub mod Event
+pub mod EventPieces
 pub mod Word
 pub mod Shared
 pub mod Specification

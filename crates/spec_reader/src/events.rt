@@ -1,6 +1,7 @@
 //! Event lines.
 ghost use Rattle.std.specs.Prelude.{◌≡◌, ℕ, IfOk, IfErr, Some, None, Ok, if◌then◌else◌};
 ghost use Rattle.spec_reader.specs.Event.{IsEventOf, event_fault, is_admitted};
+ghost use Rattle.spec_reader.specs.EventPieces.{CutsEachLine, CutsLinesInOneWay};
 ghost use Rattle.spec_reader.specs.Word.{with_word};
 
 use form_tokens::{LONGEST_WORD, Names, begins_word, is_blank, word_length};
@@ -66,3 +67,11 @@ fn with_word(letter: u64, word: &[u8], names: &Names, mode: Mode) -> Option<u64>
         (None, Mode::Only { .. }) => None,
     }
 }
+
+/// In order, blanks, runs of word bytes and stray bytes make up an event line, and a run is what it is in a formula. Its
+/// first 64 bytes are one word, and its 65th is stray; any other byte is stray exactly where it neither is blank nor begins
+/// a run. The function does nothing when it runs.
+pub fn laws_of_event_pieces()
+    ensures each { CutsEachLine }
+    ensures one { CutsLinesInOneWay }
+{}

@@ -12,6 +12,6 @@ mod formulas;
 mod reading;
 mod spec;
 
-pub use events::{EventFault, Mode, read_event};
+pub use events::{EventFault, Mode, laws_of_event_pieces, read_event};
 pub use reading::read_spec;
 pub use spec::{Key, Spec, SpecFault};

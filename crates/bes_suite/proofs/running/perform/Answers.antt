@@ -5,7 +5,7 @@ use Rattle.command_endings.specs.declared.endings.Refusal.TheVariants.{Usage}
 use Rattle.command_endings.specs.Endings.{status_of}
 use Rattle.command_endings.specs.Reading.{Reads}
 use Rattle.command_endings.specs.Tasks.{Performs}
-use Rattle.command_endings.specs.Worlds.{world}
+use Rattle.command_endings.specs.Worlds.{FileFailed, world}
 use Rattle.command_endings.specs.Writing.{Writes}
 use Rattle.command_endings.proofs.Performing.{refusal}
 use Rattle.command_endings.proofs.ReadingLemmas.{reads-none}
@@ -23,7 +23,7 @@ use Rattle.bes_suite.proofs.running.perform.Goals as goal
 pub returns-in-Usage-clause-performs : goal.returns-in-Usage-clause-performs
 returns-in-Usage-clause-performs g c =
     as-asked (λ t. Performs t (world (g.F.Files.contents c.args.files.now) (g.F.Files.failed c.args.files.now) (g.S.Source.left c.args.input.now) (g.S.Source.faults c.args.input.now) (g.O.Sink.held c.args.out.now) (g.O.Sink.faults c.args.out.now)) (world (g.F.Files.contents c.args.files.now) (g.F.Files.failed c.args.files.now) (g.S.Source.left c.args.input.now) (g.S.Source.faults c.args.input.now) (g.O.Sink.held c.args.out.now) (g.O.Sink.faults c.args.out.now)) (Refused Usage)) c.args.words.now command.Usage (sym (sym c.find_command.ensures ∙ c.in-Usage.is))
-    (refusal usage_task (world (g.F.Files.contents c.args.files.now) (g.F.Files.failed c.args.files.now) (g.S.Source.left c.args.input.now) (g.S.Source.faults c.args.input.now) (g.O.Sink.held c.args.out.now) (g.O.Sink.faults c.args.out.now)) (world (g.F.Files.contents c.args.files.now) (g.F.Files.failed c.args.files.now) (g.S.Source.left c.args.input.now) (g.S.Source.faults c.args.input.now) (g.O.Sink.held c.args.out.now) (g.O.Sink.faults c.args.out.now)) Usage (λ files rest tells. refl) (record { reads = refl; puts = refl; failed = refl }) refl)
+    (refusal usage_task (world (g.F.Files.contents c.args.files.now) (g.F.Files.failed c.args.files.now) (g.S.Source.left c.args.input.now) (g.S.Source.faults c.args.input.now) (g.O.Sink.held c.args.out.now) (g.O.Sink.faults c.args.out.now)) (world (g.F.Files.contents c.args.files.now) (g.F.Files.failed c.args.files.now) (g.S.Source.left c.args.input.now) (g.S.Source.faults c.args.input.now) (g.O.Sink.held c.args.out.now) (g.O.Sink.faults c.args.out.now)) Usage (λ files rest tells. refl) (record { input_faults = refl; output_faults = refl; failed = refl }) refl)
 
 pub returns-in-Usage-clause-writes : goal.returns-in-Usage-clause-writes
 returns-in-Usage-clause-writes g c =
@@ -130,3 +130,13 @@ returns-in-Monitor-clause-reads g c =
     let text : c.bytes-in-Monitor.result.now ≡ word_at c.args.words.now 2 = c.bytes-in-Monitor.ensures ∙ c.index-words-2-in-Monitor.is ∙ get_or_default c.args.words.now 2 c.index-words-2-in-Monitor.result [] many in
     as-asked (λ t. Reads g.S.Source.faults g.S.Source.IsTaken t (world (g.F.Files.contents c.args.files.now) (g.F.Files.failed c.args.files.now) (g.S.Source.left c.args.input.now) (g.S.Source.faults c.args.input.now) (g.O.Sink.held c.args.out.now) (g.O.Sink.faults c.args.out.now)) c.args.input.now c.monitor_formula.new.input (status_of c.monitor_formula.result)) c.args.words.now (command.Monitor c.in-Monitor.dialect) (sym (sym c.find_command.ensures ∙ c.in-Monitor.is))
     (subst (λ t. Reads g.S.Source.faults g.S.Source.IsTaken (monitor_task c.in-Monitor.dialect t) (world (g.F.Files.contents c.args.files.now) (g.F.Files.failed c.args.files.now) (g.S.Source.left c.args.input.now) (g.S.Source.faults c.args.input.now) (g.O.Sink.held c.args.out.now) (g.O.Sink.faults c.args.out.now)) c.args.input.now c.monitor_formula.new.input (status_of c.monitor_formula.result)) text (c.monitor_formula.ensures.reads _ _))
+
+pub returns-in-Judge-clause-unread : goal.returns-in-Judge-clause-unread
+returns-in-Judge-clause-unread g c =
+    as-asked (λ t. FileFailed t.file (g.F.Files.failed c.args.files.now) (g.F.Files.failed c.args.files.now) → c.judge_formula.new.input ≡ c.args.input.now) c.args.words.now (command.Judge c.in-Judge.dialect) (sym (sym c.find_command.ensures ∙ c.in-Judge.is))
+    (λ failed. absurd failed)
+
+pub returns-in-Monitor-clause-unread : goal.returns-in-Monitor-clause-unread
+returns-in-Monitor-clause-unread g c =
+    as-asked (λ t. FileFailed t.file (g.F.Files.failed c.args.files.now) (g.F.Files.failed c.args.files.now) → c.monitor_formula.new.input ≡ c.args.input.now) c.args.words.now (command.Monitor c.in-Monitor.dialect) (sym (sym c.find_command.ensures ∙ c.in-Monitor.is))
+    (λ failed. absurd failed)

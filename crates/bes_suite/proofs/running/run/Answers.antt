@@ -72,7 +72,7 @@ pub returns-clause-streams : goal.returns-clause-streams
 returns-clause-streams g c = c.perform-ending.ensures.performs.streams
 
 pub returns-clause-files : goal.returns-clause-files
-returns-clause-files g c = record { gains = c.perform-ending.ensures.performs.gains; unopened = c.perform-ending.ensures.unopened }
+returns-clause-files g c = record { gains = c.perform-ending.ensures.performs.gains; unopened = c.perform-ending.ensures.unopened; unread = c.perform-ending.ensures.unread }
 
 pub returns-clause-reads : goal.returns-clause-reads
 returns-clause-reads g c =

@@ -14,7 +14,7 @@ pub returns-in-Err-clause-performs : goal.returns-in-Err-clause-performs
 returns-in-Err-clause-performs g c contents failed left reads =
     formula-ends (forms_task c.args.dialect c.args.text.now) _ _ c.args.dialect c.args.text.now
     (λ fault why files rest. formula_refused why) c.in-Err.ending c.in-Err.ensures.ending
-    (record { reads = refl; puts = refl; failed = refl }) refl
+    (record { input_faults = refl; output_faults = refl; failed = refl }) refl
 
 pub returns-in-Err-clause-writes : goal.returns-in-Err-clause-writes
 returns-in-Err-clause-writes g c contents failed left reads =
@@ -28,7 +28,7 @@ returns-in-Ok-shown_text-clause-performs g c contents failed left reads =
     (sym (c.bytes.ensures ∙ c.in-Ok-shown_text.ensures ∙ ap (λ names. form_lines names f) c.in-Ok.ensures.names))
     (formula_shown f c.in-Ok.ensures.formula) in
     output-put (forms_task c.args.dialect c.args.text.now) _ _ c.bytes.result.now Positive (λ e. cc) refl (λ files rest tells. due) refl refl
-    (record { whole = λ on. cc; to_goal = λ on. cc }) (λ files rest tells on. cc) c.put_all.result c.put_all.ensures.ends
+    (record { whole = λ on. cc; to_goal = λ on. cc }) (λ files rest tells known on. cc) c.put_all.result c.put_all.ensures.ends
 
 pub returns-in-Ok-shown_text-clause-writes : goal.returns-in-Ok-shown_text-clause-writes
 returns-in-Ok-shown_text-clause-writes g c contents failed left reads =
@@ -43,7 +43,7 @@ returns-in-Ok-shown_text-clause-writes g c contents failed left reads =
 
 pub returns-clause-performs : goal.returns-clause-performs
 returns-clause-performs g c contents failed left reads =
-    no-memory (forms_task c.args.dialect c.args.text.now) _ _ (record { reads = refl; puts = refl; failed = refl })
+    no-memory (forms_task c.args.dialect c.args.text.now) _ _ (record { input_faults = refl; output_faults = refl; failed = refl })
 
 pub returns-clause-writes : goal.returns-clause-writes
 returns-clause-writes g c contents failed left reads =

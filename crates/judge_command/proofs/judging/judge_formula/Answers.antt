@@ -13,7 +13,7 @@ use Rattle.judge_command.proofs.judging.judge_formula.Goals as goal
 pub returns-in-Err-clause-performs : goal.returns-in-Err-clause-performs
 returns-in-Err-clause-performs g c contents failed =
     formula-ends (judge_task c.args.dialect c.args.text.now) _ _ c.args.dialect c.args.text.now
-    (λ fault why files rest. formula_refused why) c.in-Err.ending c.in-Err.ensures.ending (record { reads = refl; puts = refl; failed = refl }) refl
+    (λ fault why files rest. formula_refused why) c.in-Err.ending c.in-Err.ensures.ending (record { input_faults = refl; output_faults = refl; failed = refl }) refl
 
 pub returns-in-Err-clause-writes : goal.returns-in-Err-clause-writes
 returns-in-Err-clause-writes g c contents failed =

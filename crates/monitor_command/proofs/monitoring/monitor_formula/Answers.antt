@@ -19,7 +19,7 @@ use Rattle.monitor_command.proofs.monitoring.monitor_formula.Goals as goal
 pub returns-in-Err-clause-performs : goal.returns-in-Err-clause-performs
 returns-in-Err-clause-performs g c contents failed =
     formula-ends (monitor_task c.args.dialect c.args.text.now) _ _ c.args.dialect c.args.text.now
-    (λ fault why files rest. formula_refused why) c.in-Err.ending c.in-Err.ensures.ending (record { reads = refl; puts = refl; failed = refl }) refl
+    (λ fault why files rest. formula_refused why) c.in-Err.ending c.in-Err.ensures.ending (record { input_faults = refl; output_faults = refl; failed = refl }) refl
 
 pub returns-in-Err-clause-writes : goal.returns-in-Err-clause-writes
 returns-in-Err-clause-writes g c contents failed =
@@ -75,7 +75,7 @@ returns-clause-performs g c contents failed =
     subst (Performs (monitor_task c.args.dialect c.args.text.now) _ _) (sym c.limit_ending.ensures)
     (limit-ends c.args.dialect c.args.text.now c.in-Ok.read.1.names (tree c.in-Ok.read.0) c.in-Ok.ensures.formula c.in-Ok.ensures.names
     (monitor_task c.args.dialect c.args.text.now) _ _ (λ part count first files rest. too_many c.in-Ok.ensures.formula first)
-    (record { reads = refl; puts = refl; failed = refl }) refl c.in-Err-open.fault c.in-Err-open.ensures.fault)
+    (record { input_faults = refl; output_faults = refl; failed = refl }) refl c.in-Err-open.fault c.in-Err-open.ensures.fault)
 
 pub returns-clause-writes : goal.returns-clause-writes
 returns-clause-writes g c contents failed =

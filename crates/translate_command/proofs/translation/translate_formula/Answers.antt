@@ -18,7 +18,7 @@ use Rattle.translate_command.proofs.translation.translate_formula.Goals as goal
 pub returns-in-Err-clause-performs : goal.returns-in-Err-clause-performs
 returns-in-Err-clause-performs g c contents failed left reads =
     formula-ends (translate_task c.args.dialect c.args.text.now) _ _ c.args.dialect c.args.text.now
-    (λ fault why files rest. formula_refused why) c.in-Err.ending c.in-Err.ensures.ending (record { reads = refl; puts = refl; failed = refl }) refl
+    (λ fault why files rest. formula_refused why) c.in-Err.ending c.in-Err.ensures.ending (record { input_faults = refl; output_faults = refl; failed = refl }) refl
 
 pub returns-in-Err-clause-writes : goal.returns-in-Err-clause-writes
 returns-in-Err-clause-writes g c contents failed left reads =
@@ -32,7 +32,7 @@ returns-in-Ok-translation_text-clause-performs g c contents failed left reads =
     let due = subst (λ text. TranslateAnswers c.args.dialect c.args.text.now (record { output = text; ending = Positive })) (sym c.bytes.ensures)
     (translated f c.in-Ok.ensures.formula made) in
     output-put (translate_task c.args.dialect c.args.text.now) _ _ c.bytes.result.now Positive (λ e. cc) refl (λ files rest tells. due) refl refl
-    (record { whole = λ on. cc; to_goal = λ on. cc }) (λ files rest tells on. cc) c.put_all.result c.put_all.ensures.ends
+    (record { whole = λ on. cc; to_goal = λ on. cc }) (λ files rest tells known on. cc) c.put_all.result c.put_all.ensures.ends
 
 pub returns-in-Ok-translation_text-clause-writes : goal.returns-in-Ok-translation_text-clause-writes
 returns-in-Ok-translation_text-clause-writes g c contents failed left reads =
@@ -52,7 +52,7 @@ returns-clause-performs g c contents failed left reads =
     subst (Performs (translate_task c.args.dialect c.args.text.now) _ _) (sym c.limit_ending.ensures)
     (limit-ends c.args.dialect c.args.text.now c.in-Ok.read.1.names (tree c.in-Ok.read.0) c.in-Ok.ensures.formula c.in-Ok.ensures.names
     (translate_task c.args.dialect c.args.text.now) _ _ (λ part count first files rest. too_many (tree c.in-Ok.read.0) c.in-Ok.ensures.formula first)
-    (record { reads = refl; puts = refl; failed = refl }) refl c.in-Err-translation_text.fault c.in-Err-translation_text.ensures)
+    (record { input_faults = refl; output_faults = refl; failed = refl }) refl c.in-Err-translation_text.fault c.in-Err-translation_text.ensures)
 
 pub returns-clause-writes : goal.returns-clause-writes
 returns-clause-writes g c contents failed left reads =
