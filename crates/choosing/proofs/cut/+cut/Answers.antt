@@ -1,4 +1,4 @@
-use Rattle.std.proofs.Common.{◌<◌, ◌≤◌, sym, arith}
+use Rattle.std.proofs.Common.{◌<◌, ◌≤◌, arith}
 use Rattle.diagrams.specs.Eval.{tree}
 use Rattle.diagrams.proofs.Canon.{tree_size}
 use Rattle.diagrams.proofs.Meaning.{top_is, Keeps_trans, live-above, live_lasts}
@@ -30,7 +30,7 @@ returns-then-var-bound-clause-right t c =
     kept_cut_lasts c.args.bound c.args.store.now c.placed-then-var-bound.new.store c.placed-then-var-bound.ensures.keeps c.args.below.now c.placed-then-var-bound.new.below c.placed-then-var-bound.ensures.grows c.requires.diagrams c.args.memo.now c.requires.right
 
 pub returns-in-Some-clause-row : goal.returns-in-Some-clause-row
-returns-in-Some-clause-row t c = (c.requires.right c.args.f c.in-Some.row (sym c.in-Some.ensures)).cuts
+returns-in-Some-clause-row t c = (c.requires.right c.args.f c.in-Some.row c.in-Some.ensures).cuts
 
 pub cut-requires : goal.cut-requires
 cut-requires t c =

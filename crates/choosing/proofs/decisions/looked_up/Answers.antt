@@ -1,8 +1,21 @@
-use Rattle.std.proofs.Common.{◌∙◌, ap, arith}
+use Rattle.std.proofs.Common.{◌∙◌, ap, arith, length}
 use Rattle.std.specs.Prelude.{slice_index}
-use Rattle.diagrams.proofs.Meaning.{Keeps_trans, eval-lasts, live_lasts}
+use Rattle.diagrams.specs.Transformed.{IsTransformed, IsTableItem, same_id}
+use Rattle.diagrams.proofs.Kept.{kept_none}
+use Rattle.diagrams.proofs.Meaning.{Keeps_refl, Keeps_trans, eval-lasts, live_lasts}
 use Rattle.choosing.proofs.RowLemmas.{looked_more}
 use Rattle.choosing.proofs.decisions.looked_up.Goals as goal
+
+pub loop-at-init : goal.loop-at-init
+loop-at-init c = record {
+  keeps = Keeps_refl c.args.store.now c.props.ensures.canonical;
+  right = kept_none same_id (IsTransformed c.args.store.now (IsTableItem c.args.numbers.now)) c.new-memo.result c.new-memo.ensures;
+  rows = record {
+    size = ap length c.new-made.ensures.items;
+    live = λ k h. absurd (omega (arith, h));
+    value = λ k h. absurd (omega (arith, h));
+  };
+}
 
 pub map_terminals_with-requires : goal.map_terminals_with-requires
 map_terminals_with-requires c =

@@ -1,4 +1,4 @@
-use Rattle.std.proofs.Common.{◌<◌, length, sym, arith}
+use Rattle.std.proofs.Common.{◌<◌, length, arith}
 use Rattle.diagrams.specs.Eval.{tree}
 use Rattle.diagrams.specs.Transformed.{same_id}
 use Rattle.diagrams.proofs.Canon.{tree_size}
@@ -20,7 +20,7 @@ returns-in-Terminal-clause-body t c =
     enters_terminal c.args.store.now c.args.items.now c.requires.items c.args.f _ e (terminal_fit c.args.store.now (length c.args.items.now) c.args.f _ e c.requires.f.targets)
 
 pub returns-in-Some-clause-body : goal.returns-in-Some-clause-body
-returns-in-Some-clause-body t c = (c.requires.right c.args.f c.in-Some.body (sym c.in-Some.ensures)).enters
+returns-in-Some-clause-body t c = (c.requires.right c.args.f c.in-Some.body c.in-Some.ensures).enters
 
 pub entered-requires : goal.entered-requires
 entered-requires t c =

@@ -1,4 +1,4 @@
-use Rattle.std.proofs.Common.{◌<◌, sym, arith}
+use Rattle.std.proofs.Common.{◌<◌, arith}
 use Rattle.diagrams.specs.Eval.{tree}
 use Rattle.diagrams.proofs.Canon.{tree_size}
 use Rattle.diagrams.proofs.Meaning.{top_is, Keeps_trans}
@@ -28,7 +28,7 @@ returns-then-var-props-clause-right t c =
     kept_cut_lasts c.args.store.now c.placed-then-var-props.new.store c.placed-then-var-props.ensures.keeps c.args.count c.args.frontier.now c.placed-then-var-props.new.frontier c.placed-then-var-props.ensures.grows c.requires.claims c.args.memo.now c.requires.right
 
 pub returns-in-Some-clause-row : goal.returns-in-Some-clause-row
-returns-in-Some-clause-row t c = (c.requires.right c.args.f c.in-Some.row (sym c.in-Some.ensures)).cuts
+returns-in-Some-clause-row t c = (c.requires.right c.args.f c.in-Some.row c.in-Some.ensures).cuts
 
 pub cut-requires : goal.cut-requires
 cut-requires t c =

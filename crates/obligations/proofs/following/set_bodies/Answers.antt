@@ -1,11 +1,26 @@
-use Rattle.std.proofs.Common.{◌<◌, length, arith}
+use Rattle.std.proofs.Common.{◌<◌, length, arith, refl}
+use Rattle.diagrams.specs.Transformed.{same_id}
+use Rattle.diagrams.proofs.Kept.{kept_none}
+use Rattle.diagrams.proofs.Meaning.{Keeps_refl}
 use Rattle.automata.specs.Table.{size_of}
 use Rattle.automata.proofs.Lasts.{fits_lasts}
+use Rattle.obligations.specs.Entered.{IsEntered}
 use Rattle.obligations.proofs.Holds.{fits_cells_lasts}
 use Rattle.obligations.proofs.Cuts.{claims_last}
 use Rattle.obligations.proofs.Entering.{claims_later}
 use Rattle.obligations.proofs.Stands.{setting_next}
 use Rattle.obligations.proofs.following.set_bodies.Goals as goal
+
+pub loop-at-init : goal.loop-at-init
+loop-at-init c = record {
+  setting = record {
+    keeps = Keeps_refl c.args.store.now c.props.ensures.canonical;
+    fits = c.requires.cells;
+    others = record { number = refl; ends = λ j. refl; before = λ j h. refl };
+    bodies = λ at h. absurd (omega (arith, h));
+  };
+  right = kept_none same_id (IsEntered c.args.store.now c.args.items.now) c.new-memo.result c.new-memo.ensures;
+}
 
 pub entered-requires-clause-f : goal.entered-requires-clause-f
 entered-requires-clause-f c =
