@@ -2,12 +2,12 @@
 use Rattle.std.proofs.Common.{◌≡◌, ◌≢◌, ◌<◌, ◌≤◌, ◌+◌, ◌++◌, ℕ, zero, suc, Bool, true, false, not, List, [], ◌∷◌, refl, sym, ◌∙◌, ap, subst, arith, inl, inr, length, length-append, Some, Result, Ok, Err}
 use Rattle.std.specs.Prelude.{slice_get, slice_index, OnOk}
 use Rattle.std.specs.List.{filter}
-use Rattle.std.proofs.lemmas.Bool.{cases_Bool, cases_lt, false≢true, not-true, not-false, eqb-true, eq-eqb}
+use Rattle.std.proofs.lemmas.Bool.{cases_Bool, cases_eq, cases_lt, false≢true, not-true, not-false, eqb-true, eq-eqb}
 use Rattle.diagrams.specs.declared.top.Id.{Id}
 use Rattle.diagrams.specs.Transformed.{same_id}
 use Rattle.linked_blocks.specs.Lists.{holds, list_of, block_in, IsOnce, HoldEach}
 use Rattle.linked_blocks.proofs.LinkLemmas.{holds-head, holds-tail, holds-cases, lacks-append_both, holds-append, holds-left, holds-right}
-use Rattle.class_laws.specs.Shifts.{AreOf, IsGroup, IsParted, AreNoted}
+use Rattle.class_laws.specs.Shifts.{AreOf, IsGroup, IsParted, AreNoted, AreHalved}
 use Rattle.class_laws.proofs.ShiftAll.{holds-place}
 use Rattle.class_laws.proofs.Parting.{once-few, once-all}
 
@@ -185,6 +185,20 @@ noted_trans size old cur new a b c x y = record {
           | inr l ↦ let r = p.1 (omega (arith, h, l)) in omega (arith, r, q.0)
         ],
       );
+}
+
+-- nothing has moved
+pub halved_none : (size : ℕ) (lists : List (List ℕ)) → AreHalved size lists lists
+halved_none size lists = record { small = λ x l. omega arith; half = λ x l n. absurd (n refl) }
+
+-- what halves after what has halved
+pub halved_trans : (size : ℕ) (old cur new : List (List ℕ)) → AreHalved size old cur → AreHalved size cur new → AreHalved size old new
+halved_trans size old cur new p q = record {
+  small = λ x l. (let a = p.small x l in let b = q.small x l in omega (arith, a, b));
+  half = λ x l n. elim (cases_eq (block_in cur x) (block_in old x)) [
+    | inl e ↦ let a = p.small x l in let b = q.half x l (λ z. n (z ∙ e)) in omega (arith, a, b)
+    | inr d ↦ let a = p.half x l d in let b = q.small x l in omega (arith, a, b)
+  ];
 }
 
 -- what stands at a place

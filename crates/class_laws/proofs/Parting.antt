@@ -8,7 +8,7 @@ use Rattle.linked_blocks.specs.Lists.{Lists, holds, list_of, block_in, without, 
 use Rattle.linked_blocks.proofs.LinkLemmas.{holds-head, holds-tail, holds-cases, lacks-cons, lacks-append, holds-append, holds-left, held-apart}
 use Rattle.linked_blocks.proofs.ListLemmas.{once_short, split_at, length-split, once-without, holds-without, without-split}
 use Rattle.class_laws.specs.Classes.{AreFull, IsPaid}
-use Rattle.class_laws.specs.Shifts.{AreShifted, AreOf, IsParted, AreNoted}
+use Rattle.class_laws.specs.Shifts.{AreShifted, AreOf, IsParted, AreNoted, AreHalved}
 use Rattle.class_laws.proofs.Paid.{paid_more, paid_few}
 use Rattle.class_laws.proofs.ShiftAll.{holds-place}
 
@@ -114,18 +114,31 @@ module _ (size from : ℕ) (old new : Lists) (moving group before after : List �
         ]
   ]
 
-  pub paid-after : IsPaid size new.lists new.moves
-  paid-after = paid_more size old.moves new.moves old.lists new.lists moving paid of.once
-      (λ x t.
-      let w = of.within x t in
-      (w.0, rw (s.moved x w.0 t, s.into, w.1) (omega (arith, few))))
-      (λ x l f.
+  half-moved : (x : ℕ) → holds moving x ≡ true → (x < size) × (length (list_of new.lists (block_in new.lists x)) * 2 ≤ length (list_of old.lists (block_in old.lists x)))
+  half-moved x t = let w = of.within x t in (w.0, rw (s.moved x w.0 t, s.into, w.1) (omega (arith, few)))
+
+  no-larger : (x : ℕ) → x < size → holds moving x ≡ false → length (list_of new.lists (block_in new.lists x)) ≤ length (list_of old.lists (block_in old.lists x))
+  no-larger x l f =
       let b = block_in old.lists x in
       rw (s.stays x l f) (elim (cases_eq b from) [
         | inl q ↦ rw (q) (let a = s.from_less in omega (arith, a))
         | inr d ↦ let a = s.others b (e.there x l).0 d in omega (arith, a)
-      ]))
-      s.moves
+      ])
+
+  pub paid-after : IsPaid size new.lists new.moves
+  paid-after = paid_more size old.moves new.moves old.lists new.lists moving paid of.once half-moved no-larger s.moves
+
+  pub halved-after : AreHalved size old.lists new.lists
+  halved-after = record {
+    small = λ x l. elim (cases_Bool (holds moving x)) [
+      | inl t ↦ let a = (half-moved x t).1 in omega (arith, a)
+      | inr f ↦ no-larger x l f
+    ];
+    half = λ x l n. elim (cases_Bool (holds moving x)) [
+      | inl t ↦ (half-moved x t).1
+      | inr f ↦ absurd (n (s.stays x l f))
+    ];
+  }
 
   lacks-group : (x : ℕ) → block_in old.lists x ≢ from → holds group x ≡ false
   lacks-group x n = elim (cases_Bool (holds group x)) [ inl t ↦ absurd (n (in-block x t).1) | inr f ↦ f ]

@@ -14,11 +14,7 @@ use Rattle.class_laws.specs.Divided.{AgreeWithin, IsDivided}
 use Rattle.class_laws.specs.Classes.{AreClasses}
 use Rattle.class_laws.specs.Splits.{IsSplit}
 use Rattle.class_laws.specs.Current.{AreRowsBy}
-
--- locations of one block have one mark, and one row with blocks in place of locations
-pub record IsStable (p : ℕ) (m : Moves) (block : ℕ → ℕ) : Type 0 where
-  pub mark : (i j : ℕ) → i < m.size → j < m.size → block i ≡ block j → m.mark i ≡ m.mark j
-  pub next : (i j a : ℕ) → i < m.size → j < m.size → block i ≡ block j → a < 2 ^ p → block (m.next i a) ≡ block (m.next j a)
+use Rattle.class_laws.specs.Laws.{IsStable}
 
 stable-word : (p : ℕ) (m : Moves) (block : ℕ → ℕ) → IsClosed p m → IsStable p m block → (i j : ℕ) → i < m.size → j < m.size → block i ≡ block j
     → (w : Word) → IsOver p w → mark_after m i w ≡ mark_after m j w

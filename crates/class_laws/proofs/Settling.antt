@@ -19,7 +19,8 @@ use Rattle.class_laws.specs.Classes.{AreClasses, AreFull, IsPaid}
 use Rattle.class_laws.specs.Splits.{IsSplit}
 use Rattle.class_laws.specs.Shifts.{AreNoted}
 use Rattle.class_laws.specs.Current.{AreRowsBy, LeadTo, IsRefining}
-use Rattle.class_laws.proofs.Rounds.{IsStable, stable_classes, split_divides, unchanged_stable}
+use Rattle.class_laws.specs.Laws.{IsStable}
+use Rattle.class_laws.proofs.Rounds.{stable_classes, split_divides, unchanged_stable}
 use Rattle.class_laws.proofs.ShiftAll.{holds-place}
 use Rattle.class_laws.proofs.Parting.{holds-map, once-map}
 

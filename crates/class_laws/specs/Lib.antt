@@ -3,3 +3,4 @@ pub mod Classes
 pub mod Splits
 pub mod Shifts
 pub mod Current
+pub mod Laws

@@ -1,5 +1,5 @@
 -- Many shifts into one new block.
-use Rattle.std.specs.Prelude.{◌≡◌, ◌≢◌, ◌<◌, ◌≤◌, ◌+◌, ℕ, true, false, List, length}
+use Rattle.std.specs.Prelude.{◌≡◌, ◌≢◌, ◌<◌, ◌≤◌, ◌+◌, ◌*◌, ℕ, true, false, List, length}
 use Rattle.diagrams.specs.declared.top.Id.{Id}
 use Rattle.linked_blocks.specs.Lists.{Lists, holds, list_of, block_in, IsOnce, HoldEach}
 
@@ -38,3 +38,8 @@ pub record AreNoted (size : ℕ) (old new : List (List ℕ)) (before after : Lis
   pub rest : (x : ℕ) → x < size → holds after x ≡ false → block_in new x ≡ block_in old x
   pub within : ((x : ℕ) → holds before x ≡ true → x < size) → (x : ℕ) → holds after x ≡ true → x < size
   pub more : (length old ≤ length new) × (length before < length after → length old < length new)
+
+-- no location's block has grown, and the block of each that moved is at most half as large as the one that it left
+pub record AreHalved (size : ℕ) (old new : List (List ℕ)) : Type 0 where
+  pub small : (x : ℕ) → x < size → length (list_of new (block_in new x)) ≤ length (list_of old (block_in old x))
+  pub half : (x : ℕ) → x < size → block_in new x ≢ block_in old x → length (list_of new (block_in new x)) * 2 ≤ length (list_of old (block_in old x))

@@ -11,7 +11,7 @@ use Rattle.automata.specs.Table.{Table, size_of, mark_of, moves_of}
 use Rattle.automata.proofs.Letters.{agree_or_differ}
 use Rattle.automata.proofs.Words.{over-nil}
 use Rattle.diagrams.specs.Eval.{Diagrams}
-use Rattle.minimise.specs.Rounds.{IsDivided}
+use Rattle.class_laws.specs.Divided.{IsDivided}
 use Rattle.distinguish.specs.Telling.{IsLeastDistinguishing, IsLeastForSome}
 use Rattle.distinguish.specs.Columns.{IsColumn}
 use Rattle.distinguish.specs.Rounds.{IsDividedByWords, IsByMarks}

@@ -10,15 +10,15 @@ use Rattle.diagrams.specs.Live.{Keeps}
 use Rattle.automata.specs.Table.{Table, size_of, Fits, moves_of}
 use Rattle.automata.proofs.Lasts.{fits_lasts, next_of-lasts}
 use Rattle.minimise.specs.Minimal.{IsLeast, AreTheSame}
-use Rattle.minimise.proofs.RoundLemmas.{IsRound}
-use Rattle.minimise.proofs.RowLemmas.{rows_make_round}
+use Rattle.dividing.proofs.RoundLemmas.{IsRound}
+use Rattle.dividing.proofs.RowLemmas.{rows_make_round}
 use Rattle.distinguish.specs.declared.steps.Step.{Step}
 use Rattle.distinguish.specs.Telling.{IsTellingList}
-use Rattle.minimise.specs.Divisions.{AreBlockRows, IsDivision}
+use Rattle.dividing.specs.Divisions.{AreBlockRows, IsDivision}
 use Rattle.distinguish.specs.Columns.{AreColumns}
 use Rattle.distinguish.specs.Rounds.{IsDividedByWords, IsStable}
 use Rattle.distinguish.specs.Steps.{step_order, CanFollow, word_of, IsStep, AreSteps}
-use Rattle.minimise.proofs.DivisionLemmas.{rows_now, division_goes}
+use Rattle.dividing.proofs.DivisionLemmas.{rows_now, division_goes}
 use Rattle.distinguish.proofs.RoundLemmas.{step_letter, round_more, round_stable, stable_ends}
 use Rattle.distinguish.proofs.Transport.{mark_after-same, list_same, words_same}
 

@@ -12,8 +12,8 @@ use Rattle.forms.specs.Shortlex.{comes_before}
 use Rattle.forms.proofs.ShortlexLemmas.{before-shorter, before-lesser, before-cases, lesser-less, lesser-more}
 use Rattle.automata.specs.Moves.{Moves, mark_after, AreDistinguished}
 use Rattle.automata.proofs.Words.{over-head, over-tail}
-use Rattle.minimise.specs.Rounds.{IsDivided}
-use Rattle.minimise.proofs.RoundLemmas.{IsRound, round_divides, round_is_finer}
+use Rattle.class_laws.specs.Divided.{IsDivided}
+use Rattle.dividing.proofs.RoundLemmas.{IsRound, round_divides, round_is_finer}
 use Rattle.distinguish.specs.declared.steps.Step.{Step}
 use Rattle.distinguish.specs.contracts.steps.StepPartialEq.TheImpl as step_eq
 use Rattle.distinguish.specs.Telling.{IsLeastDistinguishing, IsLeastForSome, IsTellingList}

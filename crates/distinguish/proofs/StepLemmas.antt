@@ -11,7 +11,7 @@ use Rattle.automata.specs.Table.{Table, size_of, mark_of, Fits, next_of, moves_o
 use Rattle.automata.proofs.Words.{over-tail}
 use Rattle.distinguish.specs.declared.steps.Step.{Step}
 use Rattle.distinguish.specs.Differences.{IsLeastDifference}
-use Rattle.minimise.specs.Divisions.{AreBlockRows, HaveOneKey, IsDivision}
+use Rattle.dividing.specs.Divisions.{AreBlockRows, HaveOneKey, IsDivision}
 use Rattle.distinguish.specs.Columns.{mark_in}
 use Rattle.distinguish.specs.Rounds.{IsDividedByWords}
 use Rattle.distinguish.specs.Steps.{IsStepFor, IsStep, AreSteps}

@@ -6,7 +6,7 @@ use Rattle.forms.specs.Word.{Word, IsOver}
 use Rattle.automata.specs.Moves.{Moves, location_after, mark_after, IsClosed}
 use Rattle.automata.proofs.Words.{over-head, over-tail, location_after-within}
 use Rattle.minimise.specs.Minimal.{AreTheSame}
-use Rattle.minimise.specs.Rounds.{IsDivided}
+use Rattle.class_laws.specs.Divided.{IsDivided}
 use Rattle.distinguish.specs.Telling.{IsLeastDistinguishing, IsLeastForSome, IsTellingList}
 use Rattle.distinguish.specs.Columns.{AreColumns}
 use Rattle.distinguish.specs.Rounds.{IsDividedByWords}

@@ -8,7 +8,7 @@ use Rattle.forms.specs.Shortlex.{has_lesser_letters, comes_before}
 use Rattle.forms.proofs.ShortlexLemmas.{before-shorter, before-lesser, before-cases, lesser-cases}
 use Rattle.automata.specs.Moves.{Moves, mark_after}
 use Rattle.automata.proofs.Words.{over-head, over-tail, over-cons}
-use Rattle.minimise.specs.Rounds.{AgreeWithin, IsDivided}
+use Rattle.class_laws.specs.Divided.{AgreeWithin, IsDivided}
 use Rattle.distinguish.specs.Telling.{IsLeastDistinguishing, IsLeastForSome}
 use Rattle.distinguish.specs.Columns.{AreColumns, mark_in}
 

@@ -6,8 +6,8 @@ use Rattle.automata.specs.Moves.{Moves, IsClosed}
 use Rattle.automata.specs.Table.{Table, size_of, mark_of, moves_of}
 use Rattle.diagrams.specs.declared.top.Id.{Id}
 use Rattle.diagrams.specs.Eval.{Diagrams}
-use Rattle.minimise.specs.Divisions.{AreBlockRows}
-use Rattle.minimise.specs.Rounds.{IsDivided}
+use Rattle.dividing.specs.Divisions.{AreBlockRows}
+use Rattle.class_laws.specs.Divided.{IsDivided}
 use Rattle.distinguish.specs.declared.telling.Refinement.{Refinement}
 use Rattle.distinguish.specs.Telling.{IsLeastDistinguishing, IsLeastForSome}
 use Rattle.distinguish.specs.Columns.{AreColumns}

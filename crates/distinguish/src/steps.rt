@@ -3,7 +3,7 @@ ghost use Rattle.std.specs.Prelude.{◌≢◌, ◌<◌, ◌+◌, IfOk, OnOk};
 ghost use Rattle.std.specs.List.Sorted.{IsStrictlySortedBy};
 ghost use Rattle.automata.specs.Table.{size_of, Fits};
 ghost use Rattle.diagrams.specs.Eval.{id_at};
-ghost use Rattle.minimise.specs.Divisions.{IsDivision};
+ghost use Rattle.dividing.specs.Divisions.{IsDivision};
 ghost use Rattle.distinguish.specs.Rounds.{HasDivided, HasInOneBlock, HasRows};
 ghost use Rattle.distinguish.specs.Steps.{step_order, IsStepOf, AreStepsOf};
 ghost use Rattle.distinguish.specs.Trees.{IsTree};

@@ -2,7 +2,7 @@
 ghost use Rattle.std.specs.Prelude.{◌≡◌, ◌<◌, ◌≤◌, ◌+◌, ◌↔◌, [], ◌∷◌, ◌++◌, false, true, IsTrue, EachIndex, All, length, map, slice_index, IfOk, OnOk};
 ghost use Rattle.diagrams.specs.Live.{Keeps};
 ghost use Rattle.automata.specs.Table.{size_of, Fits, moves_of};
-ghost use Rattle.minimise.specs.Divisions.{HaveTargets};
+ghost use Rattle.dividing.specs.Divisions.{HaveTargets};
 ghost use Rattle.minimise.specs.Minimal.{IsLeast};
 ghost use Rattle.distinguish.specs.Telling.{IsTellingList};
 ghost use Rattle.distinguish.specs.Columns.{AreColumns};
@@ -15,7 +15,7 @@ use crate::words::Words;
 use automata::Automaton;
 use bes_io::{Letters, Memory};
 use diagrams::{Id, Store};
-use minimise::{Targets, block_rows, divide_by_rows, renewed_rows};
+use dividing::{Targets, block_rows, divide_by_rows, renewed_rows};
 use std::alloc::Global;
 
 /// The words so far, the marks after each, and the blocks that they divide locations into.

@@ -139,10 +139,8 @@ impl Blocks {
 
     /// The number of shifts.
     pub fn moves(&self) -> u64
-        ensures moves { result ≡ self.now.moves }
-        ensures each { (size : ℕ) × HoldEach size self.now.lists }
+        ensures { result ≡ self.now.moves }
     {
-        let _ = &self.used;
         self.moves
     }
 

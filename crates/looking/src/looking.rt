@@ -1,9 +1,9 @@
 //! Locations are looked at again.
-ghost use Rattle.std.specs.Prelude.{◌≡◌, length, IfOk, OnOk};
+ghost use Rattle.std.specs.Prelude.{◌≡◌, ℕ, true, length, IfOk, OnOk};
 ghost use Rattle.diagrams.specs.Eval.{id_at};
 ghost use Rattle.diagrams.specs.Live.{Keeps};
 ghost use Rattle.automata.specs.Table.{size_of, Fits};
-ghost use Rattle.linked_blocks.specs.Lists.{block_in, HoldEach};
+ghost use Rattle.linked_blocks.specs.Lists.{holds, block_in, HoldEach};
 ghost use Rattle.class_laws.specs.Current.{AreRowsBy, AreChanges, AreCurrent};
 
 use automata::Automaton;
@@ -28,6 +28,7 @@ pub fn look_again(
     ensures long { OnOk result (length rows.new.items ≡ size_of automaton.now) }
     ensures rows { OnOk result (AreRowsBy store.old store.new automaton.now (block_in blocks.now.lists) (id_at rows.new.items)) }
     ensures changed { IfOk result (λ changed. AreChanges (size_of automaton.now) (block_in blocks.now.lists) (id_at rows.new.items) changed.items) }
+    ensures touched { IfOk result (λ changed. (at : ℕ) → holds changed.items at ≡ true → holds touched.now at ≡ true) }
 {
     prove!(store.props() <= 32);
     let numbers = blocks.numbers();

@@ -1,10 +1,5 @@
-pub mod BlockLemmas
-pub mod PartitionLemmas
-pub mod RoundLemmas
 pub mod QuotientLemmas
-pub mod RowLemmas
-pub mod RefineLemmas
-pub mod DivisionLemmas
+pub mod MergeLemmas
 pub mod Counts
 pub mod Once
 pub mod Smallest

@@ -5,15 +5,9 @@ use Rattle.automata.specs.Moves.{Moves, location_after, mark_after, HaveSameMark
 use Rattle.automata.specs.Numbering.{IsNumbered}
 use Rattle.automata.specs.Subautomaton.{IsSubautomaton}
 use Rattle.automata.proofs.Words.{over-head, over-tail, location_after-within, mark_after-part}
+use Rattle.class_laws.specs.Divided.{IsDivided}
 use Rattle.minimise.specs.Minimal.{IsLeast}
-use Rattle.minimise.specs.Rounds.{IsDivided}
-
--- each location of q is a block of m, with its mark and its targets
-pub record IsQuotient (p : ℕ) (m q : Moves) (block : ℕ → ℕ) : Type 0 where
-  pub first : q.first ≡ block m.first
-  pub mark : (i : ℕ) → i < m.size → q.mark (block i) ≡ m.mark i
-  pub next : (i a : ℕ) → i < m.size → a < 2 ^ p → q.next (block i) a ≡ block (m.next i a)
-  pub member : (b : ℕ) → b < q.size → (i : ℕ) × (i < m.size) × (block i ≡ b)
+use Rattle.minimise.specs.Quotient.{IsQuotient}
 
 block-after : (p : ℕ) (m q : Moves) (block : ℕ → ℕ) → IsClosed p m → IsQuotient p m q block → (i : ℕ) (w : Word) → i < m.size → IsOver p w
     → location_after q (block i) w ≡ block (location_after m i w)

@@ -1,4 +1,2 @@
 pub mod Minimal
-pub mod Blocks
-pub mod Rounds
-pub mod Divisions
+pub mod Quotient

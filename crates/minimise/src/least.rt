@@ -1,44 +1,61 @@
 //! The least automaton.
-ghost use Rattle.std.specs.Prelude.{◌≡◌, ◌<◌, ◌≤◌, ◌-◌, ◌^◌, length, map, IfOk};
+ghost use Rattle.std.specs.Prelude.{◌≡◌, ◌<◌, length, slice_index, IfOk};
 ghost use Rattle.diagrams.specs.Live.{Keeps};
 ghost use Rattle.automata.specs.Moves.{HaveSameMarks};
-ghost use Rattle.automata.specs.Table.{Fits, moves_of};
+ghost use Rattle.automata.specs.Table.{size_of, Fits, moves_of};
 ghost use Rattle.automata.specs.Numbering.{IsNumbered};
+ghost use Rattle.linked_blocks.specs.Lists.{list_of, block_in, HoldEach};
+ghost use Rattle.class_laws.specs.Classes.{AreClasses, AreFull};
 ghost use Rattle.minimise.specs.Minimal.{IsLeast};
+ghost use Rattle.minimise.specs.Quotient.{IsQuotient};
 
-use crate::blocks::Key;
-use crate::rounds::refine;
 use automata::{Automaton, renumber};
 use bes_io::Memory;
-use diagrams::{Id, Store};
+use diagrams::{Memo, Store};
+use linked_blocks::Blocks;
+use refinement::refine;
 use std::alloc::Global;
 
-/// The marks of keys.
-fn marks_of(alloc: Global, kinds: &[Key]) -> Result<Vec<u32>, Memory>
-    ensures { IfOk result (λ marks. marks.items ≡ map (λ key. key.mark) kinds.now) }
+/// The first location of a block.
+fn first_of(blocks: &Blocks, block: u32) -> u32
+    requires block { block < length blocks.now.lists }
+    requires full { AreFull blocks.now.lists }
+    ensures { result ≡ slice_index (list_of blocks.now.lists block) 0 }
 {
-    let marks = kinds.iter().map(|key| key.mark).collect(alloc)?;
-    Ok(marks)
+    let Some(at) = blocks.first(block) else {
+        unreachable!();
+    };
+    at
 }
 
-/// The rows of keys.
-fn rows_of(alloc: Global, kinds: &[Key]) -> Result<Vec<Id>, Memory>
-    ensures { IfOk result (λ rows. rows.items ≡ map (λ key. key.row) kinds.now) }
+/// The automaton whose locations are the blocks.
+fn merge(
+    alloc: Global,
+    store: &mut Store,
+    automaton: &Automaton,
+    blocks: &Blocks,
+) -> Result<Automaton, Memory>
+    requires fits { Fits store.old automaton.now }
+    requires each { HoldEach (size_of automaton.now) blocks.now.lists }
+    requires full { AreFull blocks.now.lists }
+    requires classes { AreClasses store.old.props (moves_of store.old automaton.now) (block_in blocks.now.lists) }
+    ensures keeps { Keeps store.old store.new }
+    ensures fits { IfOk result (λ made. Fits store.new made) }
+    ensures quotient { IfOk result (λ made.
+        IsQuotient store.old.props (moves_of store.old automaton.now) (moves_of store.new made) (block_in blocks.now.lists)) }
 {
-    let rows = kinds.iter().map(|key| key.row).collect(alloc)?;
-    Ok(rows)
-}
-
-/// The automaton with a location for each of these keys.
-fn merge(alloc: Global, first: u32, kinds: &[Key]) -> Result<Automaton, Memory>
-    requires first { first < length kinds.now }
-    requires few { length kinds.now ≤ 2 ^ 32 - 2 }
-    ensures first { IfOk result (λ made. made.first ≡ first) }
-    ensures marks { IfOk result (λ made. made.marks ≡ map (λ key. key.mark) kinds.now) }
-    ensures rows { IfOk result (λ made. made.rows ≡ map (λ key. key.row) kinds.now) }
-{
-    let marks = marks_of(alloc, kinds)?;
-    let rows = rows_of(alloc, kinds)?;
+    prove!(store.props() <= 32);
+    prove!(automaton.first() < automaton.size());
+    let numbers = blocks.numbers();
+    let mut memo = Memo::new(alloc);
+    let mut marks = Vec::new(alloc);
+    let mut rows = Vec::new(alloc);
+    for block in 0..blocks.len() {
+        let at = first_of(blocks, block);
+        marks.push(automaton.mark(at))?;
+        rows.push(store.map_terminals_with(&mut memo, automaton.row(at), numbers)?)?;
+    }
+    let first = blocks.block_of(automaton.first());
     Ok(Automaton::new(first, marks, rows))
 }
 
@@ -53,8 +70,11 @@ pub fn minimise(alloc: Global, store: &mut Store, automaton: Automaton) -> Resul
     ensures least { IfOk result (λ made. IsLeast store.old.props (moves_of store.new made)) }
     ensures numbered { IfOk result (λ made. IsNumbered store.old.props (moves_of store.new made)) }
 {
-    let partition = refine(alloc, store, &automaton)?;
-    let first = partition.blocks[automaton.first() as usize];
-    let merged = merge(alloc, first, partition.kinds.as_slice())?;
+    prove!(store.props() <= 32);
+    prove!(automaton.first() < automaton.size());
+    let mut blocks = Blocks::new(alloc, automaton.size())?;
+    refine(alloc, store, &automaton, &mut blocks)?;
+    let merged = merge(alloc, store, &automaton, &blocks)?;
+    prove!(merged.first() < merged.size());
     renumber(alloc, store, merged)
 }

@@ -1,10 +1,10 @@
 //! Groups of locations with one block and one row, which part one after another.
-ghost use Rattle.std.specs.Prelude.{◌≡◌, ◌<◌, ◌^◌, ◌==◌, ◌∷◌, ◌++◌, [], length, map, slice_set, if◌then◌else◌, IfOk, OnOk};
+ghost use Rattle.std.specs.Prelude.{◌≡◌, ◌<◌, ◌+◌, ◌^◌, ◌==◌, ◌∷◌, ◌++◌, [], length, map, slice_set, if◌then◌else◌, IfOk, OnOk};
 ghost use Rattle.diagrams.specs.Eval.{id_at};
 ghost use Rattle.linked_blocks.specs.Lists.{list_of, block_in, HoldEach};
 ghost use Rattle.class_laws.specs.Classes.{AreFull, IsPaid};
 ghost use Rattle.class_laws.specs.Splits.{IsSplit};
-ghost use Rattle.class_laws.specs.Shifts.{AreNoted};
+ghost use Rattle.class_laws.specs.Shifts.{AreNoted, AreHalved};
 ghost use Rattle.class_laws.specs.Current.{AreChanges, AreGroups};
 
 use crate::parting::part;
@@ -81,6 +81,8 @@ pub fn split(
     ensures paid { OnOk result (IsPaid (length rows.now) blocks.new.lists blocks.new.moves) }
     ensures split { OnOk result (IsSplit (length rows.now) (block_in blocks.old.lists) (block_in blocks.new.lists) (id_at rows.now)) }
     ensures noted { IfOk result (λ shifted. AreNoted (length rows.now) blocks.old.lists blocks.new.lists [] shifted.items) }
+    ensures halved { OnOk result (AreHalved (length rows.now) blocks.old.lists blocks.new.lists) }
+    ensures moves { IfOk result (λ shifted. blocks.new.moves ≡ blocks.old.moves + length shifted.items) }
 {
     let groups = group(alloc, blocks, rows, changed)?;
     let mut shifted = Vec::new(alloc);

@@ -6,7 +6,7 @@ ghost use Rattle.diagrams.specs.Eval.{id_at};
 ghost use Rattle.diagrams.specs.Transformed.{same_id};
 ghost use Rattle.linked_blocks.specs.Lists.{holds, list_of, block_in, IsThere, IsOnce, HoldEach};
 ghost use Rattle.class_laws.specs.Classes.{AreFull, IsPaid};
-ghost use Rattle.class_laws.specs.Shifts.{AreShifted, AreOf, IsGroup, IsParted, AreNoted};
+ghost use Rattle.class_laws.specs.Shifts.{AreShifted, AreOf, IsGroup, IsParted, AreNoted, AreHalved};
 
 use bes_io::Memory;
 use diagrams::Id;
@@ -83,6 +83,8 @@ pub(crate) fn part(
     ensures paid { OnOk result (IsPaid (length rows.now) blocks.new.lists blocks.new.moves) }
     ensures parted { OnOk result (IsParted (length rows.now) (block_in blocks.old.lists) (block_in blocks.new.lists) group.now) }
     ensures noted { OnOk result (AreNoted (length rows.now) blocks.old.lists blocks.new.lists shifted.old.items shifted.new.items) }
+    ensures halved { OnOk result (AreHalved (length rows.now) blocks.old.lists blocks.new.lists) }
+    ensures moves { OnOk result (blocks.new.moves + length shifted.old.items ≡ blocks.old.moves + length shifted.new.items) }
 {
     let first = group[0];
     let block = blocks.block_of(first);

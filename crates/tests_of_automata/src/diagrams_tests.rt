@@ -78,6 +78,32 @@ fn chosen(alloc: Global) -> Result<u32, Memory> {
     Ok(values(&store, f))
 }
 
+// The row of a constant where a is true, and else of a.
+fn constant_or_test(alloc: Global, value: u32) -> Result<u32, Memory> {
+    let (mut store, a, _b) = pair(alloc)?;
+    let constant = store.terminal(value)?;
+    let f = store.ite(a, constant, a)?;
+    Ok(values(&store, f))
+}
+
+// The row of a where it is true, and else of a constant.
+fn test_or_constant(alloc: Global, value: u32) -> Result<u32, Memory> {
+    let (mut store, a, _b) = pair(alloc)?;
+    let constant = store.terminal(value)?;
+    let f = store.ite(a, a, constant)?;
+    Ok(values(&store, f))
+}
+
+#[test]
+fn a_choice_between_a_constant_and_its_test(rt: HostRuntime) -> Result<(), Memory> {
+    let alloc = rt.alloc();
+    assert_eq!(rt; constant_or_test(alloc, 1)?, 11, "a or a");
+    assert_eq!(rt; constant_or_test(alloc, 0)?, 0, "never");
+    assert_eq!(rt; test_or_constant(alloc, 0)?, 11, "a and a");
+    assert_eq!(rt; test_or_constant(alloc, 1)?, 1111, "always");
+    Ok(())
+}
+
 // The row of the number with its terminals looked up.
 fn mapped(alloc: Global, table: &[u32]) -> Result<u32, Memory>
     requires { length table.now ≡ 4 }
@@ -177,7 +203,29 @@ fn a_memo_gives_back_what_was_kept(rt: HostRuntime) -> Result<(), Memory> {
     memo.keep(one, zero)?;
     memo.keep(zero, zero)?;
     assert!(rt; memo.get(&zero) == Some(zero), "what was kept last");
-    assert!(rt; memo.get(&one) == Some(zero), "another key");
+    assert!(rt;
+        memo.get(&one) == Some(zero),
+        "another key, with a place of its own"
+    );
+    Ok(())
+}
+
+#[test]
+fn a_memo_grows_and_answers_only_what_was_kept(rt: HostRuntime) -> Result<(), Memory> {
+    let mut memo = Memo::new(rt.alloc());
+    for k in 0..1000 {
+        memo.keep(Id(k), Id(k + 1))?;
+    }
+    let mut known = 0u32;
+    for k in 0..1000 {
+        if let Some(id) = memo.get(&Id(k)) {
+            assert!(rt; id == Id(k + 1), "the result for the key");
+            known = known.wrapping_add(1);
+        }
+    }
+    assert!(rt; memo.get(&Id(999)) == Some(Id(1000)), "what was kept last");
+    assert!(rt; memo.get(&Id(1000)).is_none(), "a key that wasn't kept");
+    assert!(rt; known > 500, "most were not forgotten");
     Ok(())
 }
 

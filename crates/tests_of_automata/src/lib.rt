@@ -1,4 +1,4 @@
-//! Tests of diagrams, automata, least automata, words that tell locations apart, and monitors.
+//! Tests of diagrams, automata, classes of locations, least automata, words that tell locations apart, and monitors.
 #![tactic(auto)]
 
 #[cfg(test)]
@@ -11,3 +11,5 @@ mod distinguish_tests;
 mod minimise_tests;
 #[cfg(test)]
 mod monitor_tests;
+#[cfg(test)]
+mod refinement_tests;

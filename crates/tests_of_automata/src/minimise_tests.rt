@@ -2,7 +2,8 @@
 use automata::renumber;
 use bes_io::Memory;
 use diagrams::Store;
-use minimise::{Targets, block_rows, divide_by_rows, minimise, renewed_rows};
+use dividing::{Targets, block_rows, divide_by_rows, renewed_rows};
+use minimise::minimise;
 use std::alloc::Global;
 use test_support::{Location, automaton_of, listing};
 

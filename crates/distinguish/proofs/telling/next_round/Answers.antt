@@ -2,8 +2,8 @@ use Rattle.std.proofs.Common.{◌≡◌, ◌++◌, ◌==◌, ℕ, List, true, sy
 use Rattle.std.proofs.lemmas.Bool.Decides.{nat_tests}
 use Rattle.diagrams.proofs.Meaning.{Keeps_refl}
 use Rattle.automata.specs.Table.{size_of, moves_of}
-use Rattle.minimise.specs.Divisions.{AreBlockRows, IsDivision}
-use Rattle.minimise.proofs.DivisionLemmas.{rows_now}
+use Rattle.dividing.specs.Divisions.{AreBlockRows, IsDivision}
+use Rattle.dividing.proofs.DivisionLemmas.{rows_now}
 use Rattle.distinguish.specs.Columns.{AreColumns}
 use Rattle.distinguish.specs.Rounds.{IsDividedByWords}
 use Rattle.distinguish.specs.Steps.{word_of, AreStepsOf}

@@ -2,8 +2,8 @@ use Rattle.std.proofs.Common.{◌<◌, arith, subst}
 use Rattle.diagrams.proofs.Meaning.{Keeps_trans}
 use Rattle.automata.specs.Table.{size_of, row_of, moves_of}
 use Rattle.automata.proofs.Lasts.{fits_lasts}
-use Rattle.minimise.specs.Divisions.{AreBlockRows, targets_at}
-use Rattle.minimise.proofs.DivisionLemmas.{rows_now, targets_last}
+use Rattle.dividing.specs.Divisions.{AreBlockRows, targets_at}
+use Rattle.dividing.proofs.DivisionLemmas.{rows_now, targets_last}
 use Rattle.distinguish.proofs.Few.{needed_are_few}
 use Rattle.distinguish.proofs.NextLemmas.{words_end, words_last}
 use Rattle.distinguish.proofs.telling.telling_words.Goals as goal

@@ -1,18 +1,27 @@
-use Rattle.std.proofs.Common.{◌≡◌, ◌≢◌, ◌<◌, [], ◌∷◌, ◌++◌, true, refl, sym, ◌∙◌, ap, subst, arith, length, take}
+use Rattle.std.proofs.Common.{◌≡◌, ◌≢◌, ◌<◌, ℕ, [], ◌∷◌, ◌++◌, true, refl, sym, ◌∙◌, ap, subst, arith, length, take}
 use Rattle.std.specs.Prelude.{slice_index, slice_set}
 use Rattle.std.proofs.lemmas.List.{take_more, take_all, get_or_read}
 use Rattle.diagrams.specs.Eval.{id_at}
-use Rattle.diagrams.proofs.Meaning.{Keeps_trans}
+use Rattle.diagrams.specs.Transformed.{IsTransformed, IsTableItem, same_id}
+use Rattle.diagrams.proofs.Kept.{kept_none}
+use Rattle.diagrams.proofs.Meaning.{Keeps_refl, Keeps_trans}
 use Rattle.automata.specs.Table.{size_of, row_of}
 use Rattle.automata.proofs.Lasts.{row_lasts}
 use Rattle.linked_blocks.specs.Lists.{holds, block_in}
 use Rattle.class_laws.specs.Current.{AreRowsBy, AreChanges}
 use Rattle.class_laws.proofs.Grouped.{ids-same, ids-differ}
-use Rattle.class_laws.proofs.Looking.{IsLooking, looking_same, looking_changed, looked_rows, looked_changes}
+use Rattle.class_laws.proofs.Looking.{IsLooking, looking_none, looking_same, looking_changed, looked_rows, looked_changes}
 use Rattle.class_laws.proofs.ShiftAll.{holds-place}
 use Rattle.looking.proofs.Looked.{within_both, looked_means}
 use Rattle.looking.proofs.looking.look_again.Goals as goal
 use Rattle.looking.proofs.looking.look_again.Goals.{then-ne+in_ok-push, else-ne}
+
+pub loop-at-init : goal.loop-at-init
+loop-at-init c = record {
+  keeps = Keeps_refl c.args.store.now c.props.ensures.canonical;
+  right = kept_none same_id (IsTransformed c.args.store.now (IsTableItem c.numbers-numbers.result.now)) c.new-memo.result c.new-memo.ensures;
+  looking = rw c.new-changed.ensures.items (looking_none c.args.store.now c.args.automaton.now c.numbers-numbers.result.now c.args.rows.now.items);
+}
 
 pub row-requires : goal.row-requires
 row-requires c =
@@ -117,3 +126,9 @@ returns-clause-changed c =
     (take_all c.loop-at.at-index touched a) c.loop-at.invariant.looking in
     looked_changes c.args.store.now c.loop-at.store c.args.automaton.now numbers c.args.blocks.now.lists c.args.rows.now.items c.loop-at.rows.items touched c.loop-at.changed.items
     c.loop-at.invariant.keeps c.requires.fits c.requires.each c.numbers-numbers.ensures.block c.requires.current v
+
+pub returns-clause-touched : goal.returns-clause-touched
+returns-clause-touched c =
+    let touched = c.args.touched.now in
+    let a = c.loop-at-test.false in
+    subst (λ xs. (at : ℕ) → holds c.loop-at.changed.items at ≡ true → holds xs at ≡ true) (take_all c.loop-at.at-index touched a) c.loop-at.invariant.looking.known

@@ -5,7 +5,7 @@ use Rattle.linked_blocks.specs.Lists.{list_of, block_in}
 use Rattle.class_laws.specs.Shifts.{IsGroup, IsParted}
 use Rattle.class_laws.specs.Current.{AreGroups}
 use Rattle.class_laws.proofs.Splitting.{IsSplitting, group_now, splitting_more, splitting_ends}
-use Rattle.class_laws.proofs.Grouped.{noted_trans}
+use Rattle.class_laws.proofs.Grouped.{noted_trans, halved_trans}
 use Rattle.refinement.proofs.groups.split.Goals as goal
 
 pub part-requires-clause-group : goal.part-requires-clause-group
@@ -50,6 +50,8 @@ loop-list-preserved c =
       paid = c.in_ok-part.ensures.paid;
       splitting = splitting_more size old cur new key lists k c.loop-list.invariant.splitting group parted;
       noted = noted_trans size c.args.blocks.now.lists c.loop-list.blocks.lists c.part.new.blocks.lists [] c.loop-list.shifted.items c.part.new.shifted.items c.loop-list.invariant.noted c.in_ok-part.ensures.noted;
+      halved = halved_trans size c.args.blocks.now.lists c.loop-list.blocks.lists c.part.new.blocks.lists c.loop-list.invariant.halved c.in_ok-part.ensures.halved;
+      moves = (let m = c.in_ok-part.ensures.moves in let v = c.loop-list.invariant.moves in omega (arith, m, v));
     }
 
 pub returns-clause-split : goal.returns-clause-split

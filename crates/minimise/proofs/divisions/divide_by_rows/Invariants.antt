@@ -1,5 +1,0 @@
-use Rattle.minimise.proofs.DivisionLemmas.{IsDividing}
-use Rattle.minimise.proofs.divisions.divide_by_rows.Given as goal
-
-abbrev pub invariant-loop-at : goal.invariant-loop-at
-invariant-loop-at l = IsDividing l.automaton l.rows l.firsts l.blocks.items l.at
