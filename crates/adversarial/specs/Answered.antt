@@ -7,7 +7,8 @@ use Rattle.diagrams.specs.Eval.{Diagrams, eval, id_at, letter_truth, DependsOn}
 use Rattle.diagrams.specs.Live.{IsLive}
 use Rattle.diagrams.specs.Folded.{IsExtreme}
 use Rattle.diagrams.specs.Picked.{IsLeastNumber}
-use Rattle.diagrams.specs.Transformed.{item_value}
+use Rattle.diagrams.specs.Kept.{AllKept}
+use Rattle.diagrams.specs.Transformed.{IsTransformed, IsTableItem, same_id, item_value}
 use Rattle.attractor.specs.Graph.{number_at}
 use Rattle.forms.specs.Word.{Word}
 use Rattle.game.specs.Board.{IsOutput, width}
@@ -17,7 +18,10 @@ use Rattle.forms.specs.declared.partition.Partition.{Partition}
 use Rattle.forms.specs.declared.partition.Mover.TheVariants.{Agent, Environment}
 use Rattle.game.specs.Marks.{IsAnswer}
 use Rattle.game.specs.Arena.{Locations, locations, LeadsTo}
+use Rattle.layers.specs.declared.folding.Below.TheVariants.{Item}
+use Rattle.layers.specs.Folding.{IsRightFor}
 use Rattle.layers.specs.HistoryNumbers.{history_answers}
+use Rattle.adversarial.specs.declared.answering.Answering.{Answering}
 
 -- 1 where there is no rank, and else 0
 abbrev pub unranked_code : Option ℕ → ℕ
@@ -50,6 +54,11 @@ pub record HasValues (n : Diagrams) (id : Id) (P : Assignment → ℕ → Type 0
 abbrev pub IsChosen : Diagrams → Diagrams → Bool → ℕ → List ℕ → Id → Option ℕ → Option Id → Type 0
 IsChosen s n first before table row (Some k) o = o ≡ None
 IsChosen s n first before table row None o = (id : Id) × (o ≡ Some id) × HasValues n id (IsAnswerValue first before s.props (item_value s table row))
+
+-- what was found for the rows so far is right
+pub record IsRightSoFar (s : Diagrams) (inputs : ℕ) (table : List ℕ) (answering : Answering) : Type 0 where
+  pub folding : IsRightFor s Item inputs table answering.folding
+  pub coded : AllKept same_id (IsTransformed s (IsTableItem table)) answering.coded
 
 -- the table of a location, where there is one
 abbrev pub table_at : List (Option Id) → ℕ → Option Id

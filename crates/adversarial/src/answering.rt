@@ -9,16 +9,15 @@ ghost use Rattle.game.specs.Board.{width};
 ghost use Rattle.game.specs.Histories.{Aims};
 ghost use Rattle.game.specs.Arena.{IsArenaOf};
 ghost use Rattle.layers.specs.Ranked.{AreRanks, GoesByInput};
-ghost use Rattle.layers.specs.Folding.{IsRightFor};
 ghost use Rattle.layers.specs.ArenaRows.{AreArenaRows};
 ghost use Rattle.layers.specs.ArenaRows as table;
 ghost use Rattle.arena.specs.Left.{FitsArena, locations_of};
-ghost use Rattle.adversarial.specs.Answered.{unranked_code, AreUnranked, IsAnswerValue, HasValues, IsChosen, AreAnswers, AreAnswerDiagrams, Refute, AnswerHistories};
+ghost use Rattle.adversarial.specs.Answered.{unranked_code, AreUnranked, IsRightSoFar, IsAnswerValue, HasValues, IsChosen, AreAnswers, AreAnswerDiagrams, Refute, AnswerHistories};
 
 use arena::Arena;
 use attractor::Sides;
 use bes_io::Memory;
-use diagrams::{Id, Store};
+use diagrams::{Id, Memo, Store};
 use forms::Partition;
 use layers::{Below, EnvTable, Folding, Ranks, agent_sides, fold_row};
 use std::alloc::Global;
@@ -45,10 +44,17 @@ fn codes(alloc: Global, ranks: &[Option<u32>]) -> Result<Vec<u32>, Memory>
     Ok(table)
 }
 
+/// What was found for the rows so far: environment first their folds, agent first their codes.
+#[derive(Drop)]
+struct Answering {
+    folding: Folding,
+    coded: Memo<Id>,
+}
+
 /// The table of answers of a row that isn't won.
 fn answer(
     store: &mut Store,
-    folding: &mut Folding,
+    answering: &mut Answering,
     row: Id,
     table: &[u32],
     sides: Sides,
@@ -58,16 +64,17 @@ fn answer(
     requires small { (k : ℕ) → k < length table.now → slice_index table.now k < 2 }
     requires letters { DependsOn store.old row (λ v. v < store.old.props) }
     requires before { sides.before ≤ store.old.props }
-    requires right { IsRightFor store.old Below.Item sides.before table.now folding.old }
+    requires right { IsRightSoFar store.old sides.before table.now answering.old }
     ensures keeps { Keeps store.old store.new }
-    ensures right { OnOk result (IsRightFor store.new Below.Item sides.before table.now folding.new) }
+    ensures right { OnOk result (IsRightSoFar store.new sides.before table.now answering.new) }
     ensures id { IfOk result (λ id. HasValues store.new id (IsAnswerValue sides.lesser_before sides.before store.old.props (item_value store.old table.now row))) }
 {
     let props = store.props();
     if sides.lesser_before {
-        let evades = store.map_terminals(row, table)?;
-        store.pick(evades, sides.before, props)
+        let coded = store.map_terminals_with(&mut answering.coded, row, table)?;
+        store.pick(coded, sides.before, props)
     } else {
+        let folding = &mut answering.folding;
         let all = fold_row(store, folding, row, table, Below::Item, sides.before)?;
         store.pick(all, 0, sides.before)
     }
@@ -76,7 +83,7 @@ fn answer(
 /// The table of answers of a row, where it isn't won.
 fn answer_unless(
     store: &mut Store,
-    folding: &mut Folding,
+    answering: &mut Answering,
     row: Id,
     rank: Option<u32>,
     table: &[u32],
@@ -87,15 +94,15 @@ fn answer_unless(
     requires small { (k : ℕ) → k < length table.now → slice_index table.now k < 2 }
     requires letters { DependsOn store.old row (λ v. v < store.old.props) }
     requires before { sides.before ≤ store.old.props }
-    requires right { IsRightFor store.old Below.Item sides.before table.now folding.old }
+    requires right { IsRightSoFar store.old sides.before table.now answering.old }
     ensures keeps { Keeps store.old store.new }
-    ensures right { OnOk result (IsRightFor store.new Below.Item sides.before table.now folding.new) }
+    ensures right { OnOk result (IsRightSoFar store.new sides.before table.now answering.new) }
     ensures id { IfOk result (λ made. IsChosen store.old store.new sides.lesser_before sides.before table.now row rank made) }
 {
     prove!(store.props() <= 32);
     match rank {
         Some(_) => Ok(None),
-        None => Ok(Some(answer(store, folding, row, table, sides)?)),
+        None => Ok(Some(answer(store, answering, row, table, sides)?)),
     }
 }
 
@@ -117,10 +124,13 @@ fn answers_of_rows(
     prove!(store.props() <= 32);
     let sides = agent_sides(partition);
     let table = codes(alloc, ranks)?;
-    let mut folding = Folding::new(alloc);
+    let mut answering = Answering {
+        folding: Folding::new(alloc),
+        coded: Memo::new(alloc),
+    };
     let mut made = EnvTable::new(alloc);
     for at in 0..rows.len() {
-        made.push(answer_unless(store, &mut folding, rows[at], ranks[at], &table, sides)?)?;
+        made.push(answer_unless(store, &mut answering, rows[at], ranks[at], &table, sides)?)?;
     }
     Ok(made)
 }

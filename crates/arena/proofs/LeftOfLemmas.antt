@@ -1,11 +1,12 @@
 -- What is left of an automaton, its rows one by one.
-use Rattle.std.proofs.Common.{◌≡◌, ◌<◌, ◌≤◌, ◌+◌, ◌==◌, ℕ, ◌++◌, List, [], ◌∷◌, length, length-append, inl, inr, sym, ◌∙◌, ap, subst, arith, Bool, false}
+use Rattle.std.proofs.Common.{◌≡◌, ◌≢◌, ◌<◌, ◌≤◌, ◌+◌, ◌==◌, ℕ, ◌++◌, List, [], ◌∷◌, length, length-append, inl, inr, sym, ◌∙◌, ap, subst, arith, Bool, false}
 use Rattle.std.specs.Prelude.{slice_index}
-use Rattle.std.proofs.lemmas.Bool.{cases_Bool}
+use Rattle.std.proofs.lemmas.Bool.{cases_Bool, eqb-true}
 use Rattle.std.proofs.lemmas.List.{get_or_append_left, get_or_at}
 use Rattle.diagrams.specs.declared.top.Id.{Id}
 use Rattle.diagrams.specs.Eval.{Diagrams, eval, id_at, letter_truth}
 use Rattle.diagrams.specs.Live.{Keeps, IsLive}
+use Rattle.diagrams.specs.Transformed.{Transforms, IsTableItem}
 use Rattle.diagrams.proofs.Meaning.{eval-lasts, means_lasts}
 use Rattle.automata.specs.Table.{Table, size_of, mark_of, row_of, Fits, moves_of}
 use Rattle.automata.proofs.Lasts.{fits_lasts}
@@ -22,6 +23,24 @@ left_row_from s n after table row id mark own k live r =
 left_row_stays : (s n after : Diagrams) (table : List ℕ) (row id : Id) (mark own : ℕ) → Keeps n after → IsLeftRow s n table row mark own id → IsLeftRow s after table row mark own id
 left_row_stays s n after table row id mark own k r =
     record { rests = λ e. means_lasts n after k id (λ _. own) (r.rests e); goes = λ e. means_lasts n after k id (λ a. slice_index table (eval s row a)) (r.goes e) }
+
+-- a row that is led to the table's items
+pub left_transformed : (s n : Diagrams) (table : List ℕ) (row id : Id) (mark own : ℕ) → mark ≢ 1 → Transforms s n (IsTableItem table) row id → IsLeftRow s n table row mark own id
+left_transformed s n table row id mark own d t = record {
+  rests = λ e. absurd (d (eqb-true mark 1 e));
+  goes = λ e. record { live = t.live; value = t.value };
+}
+
+-- no location yet
+pub left_none : (s : Diagrams) (t : Table) (table : List ℕ) (goals broken : List Bool) (rows : List Id) → goals ≡ [] → broken ≡ [] → rows ≡ [] → AreLeft s s t table goals broken rows 0
+left_none s t table goals broken rows eg eb er = record {
+  goals_count = ap length eg;
+  broken_count = ap length eb;
+  rows_count = ap length er;
+  goal = λ at h. absurd (omega arith);
+  broke = λ at h. absurd (omega arith);
+  row = λ at h. absurd (omega arith);
+}
 
 -- one more location that is left
 pub left_more : (s n after : Diagrams) (t : Table) (table xs : List ℕ) (goals broken : List Bool) (rows : List Id) (at mark own : ℕ) (row id : Id) → Keeps s n → Keeps n after → Fits s t → at < size_of t

@@ -1,7 +1,9 @@
 //! Arenas: the locations of live histories.
 ghost use Rattle.std.specs.Prelude.{◌≡◌, ◌<◌, ◌≤◌, ◌+◌, ◌-◌, ◌^◌, ◌==◌, length, slice_index, true, false, IfOk};
 ghost use Rattle.diagrams.specs.Eval.{eval, id_at};
+ghost use Rattle.diagrams.specs.Kept.{AllKept};
 ghost use Rattle.diagrams.specs.Live.{Keeps};
+ghost use Rattle.diagrams.specs.Transformed.{IsTransformed, IsTableItem, same_id};
 ghost use Rattle.automata.specs.Table.{size_of, mark_of, Fits, IsRow, moves_of};
 ghost use Rattle.game.specs.Kinds.{IsLeftOf};
 ghost use Rattle.arena.specs.Left.{is_goal_at, is_broken_at, locations_of, FitsArena, IsLeftRow};
@@ -9,7 +11,7 @@ ghost use Rattle.arena.specs.Left.{is_goal_at, is_broken_at, locations_of, FitsA
 use crate::numbers::numbers;
 use automata::Automaton;
 use bes_io::Memory;
-use diagrams::{Id, Store};
+use diagrams::{Id, Memo, Store};
 use forms::Partition;
 use std::alloc::Global;
 use std::marker::Model;
@@ -107,16 +109,25 @@ impl Arena {
     }
 }
 
-/// The row of a location that is left.
-fn left_row(store: &mut Store, row: Id, table: &[u32], mark: u32, own: u32) -> Result<Id, Memory>
-    requires { IsRow store.old (length table.now) row }
+/// The row of a location that is left, with what was found for other rows.
+fn left_row(
+    store: &mut Store,
+    memo: &mut Memo<Id>,
+    row: Id,
+    table: &[u32],
+    mark: u32,
+    own: u32,
+) -> Result<Id, Memory>
+    requires row { IsRow store.old (length table.now) row }
+    requires right { AllKept same_id (IsTransformed store.old (IsTableItem table.now)) memo.old }
     ensures keeps { Keeps store.old store.new }
+    ensures right { AllKept same_id (IsTransformed store.new (IsTableItem table.now)) memo.new }
     ensures row { IfOk result (λ id. IsLeftRow store.old store.new table.now row mark own id) }
 {
     if mark == 1 {
         return store.terminal(own);
     }
-    store.map_terminals(row, table)
+    store.map_terminals_with(memo, row, table)
 }
 
 /// The arena of the locations with a mark below 3.
@@ -139,6 +150,7 @@ pub(crate) fn left_of(
     prove!(store.props() <= 32);
     prove!(automaton.first() < automaton.size());
     let table = numbers(alloc, automaton)?;
+    let mut memo = Memo::new(alloc);
     let mut goals = Vec::new(alloc);
     let mut broken = Vec::new(alloc);
     let mut rows = Vec::new(alloc);
@@ -148,7 +160,8 @@ pub(crate) fn left_of(
             let own = rows.len() as u32;
             goals.push(mark == 1)?;
             broken.push(mark == 2)?;
-            rows.push(left_row(store, automaton.row(at), &table, mark, own)?)?;
+            let row = automaton.row(at);
+            rows.push(left_row(store, &mut memo, row, &table, mark, own)?)?;
         }
     }
     Ok(Arena {

@@ -1,5 +1,5 @@
 -- What is said of an arena's rows is said of the arena, and of the histories of a specification whose arena it is.
-use Rattle.std.proofs.Common.{◌≡◌, ◌<◌, ◌^◌, ◌⊎◌, ℕ, suc, inl, inr, refl, sym, ◌∙◌, ap, subst, Bool, true, false, List, length, Option, Some, None}
+use Rattle.std.proofs.Common.{◌≡◌, ◌<◌, ◌^◌, ◌⊎◌, ℕ, zero, suc, inl, inr, refl, sym, ◌∙◌, ap, subst, Bool, true, false, List, length, Option, Some, None}
 use Rattle.std.specs.Prelude.{◌↔◌, IsSome}
 use Rattle.diagrams.specs.declared.top.Id.{Id}
 use Rattle.diagrams.specs.Eval.{Diagrams, eval, id_at, letter_truth}
@@ -7,11 +7,13 @@ use Rattle.diagrams.specs.Live.{IsCanonical}
 use Rattle.attractor.specs.Graph.{number_at}
 use Rattle.attractor.specs.Rows.{is_first_at}
 use Rattle.forms.specs.declared.partition.Partition.{Partition}
-use Rattle.game.specs.Board.{width}
+use Rattle.game.specs.Board.{width, decision_of, output_of}
 use Rattle.forms.specs.Word.{Word, IsOver}
 use Rattle.game.specs.Winning.{ReachesWithin, CanMeetWithin, FailsDutyWithin}
-use Rattle.game.specs.Histories.{Aims, histories, is_given, IsLegalHistory}
+use Rattle.game.specs.Histories.{Aims, histories, one_more, is_given, IsLegalHistory}
 use Rattle.game.proofs.HistoryLemmas.{done_or_not}
+use Rattle.game.proofs.Rounds.{output_small, own_round}
+use Rattle.game.proofs.WinningLemmas.{reaches-by, reaches-won}
 use Rattle.game.proofs.Hope.{hope_is_meeting, out_of_reach_is_never_met}
 use Rattle.game.specs.Arena.{Locations, locations, LeadsTo, IsArenaOf}
 use Rattle.game.specs.Numbers.{IsLeastOrNone}
@@ -25,12 +27,12 @@ use Rattle.layers.proofs.ArenaLemmas.{arena_rows, arena_won}
 use Rattle.layers.proofs.DistanceLemmas.{can_hope, hope_can}
 use Rattle.layers.proofs.MoreBounds.{distance_most, decision_hope_few, loss_less}
 use Rattle.layers.proofs.Duty.{holds_along, can_keep, decision_loss_few}
-use Rattle.layers.proofs.Meeting.{can_reaches}
 use Rattle.layers.proofs.HistoryLemmas.{leads_within, history_distances, history_meets, location_meets, history_losses, history_keeps, decision_leads}
 use Rattle.arena.specs.Left.{ArenaTable, FitsArena, locations_of}
+use Rattle.arena.specs.Building.{GoesOnLegally}
 use Rattle.cooperative.specs.declared.loss.Loss.{Loss}
 use Rattle.cooperative.specs.declared.loss.Loss.TheVariants.{Held, In}
-use Rattle.cooperative.specs.Hoped.{MeetsByDistance, HistoriesMeet, HopeIsPossibility}
+use Rattle.cooperative.specs.Hoped.{MeetsByDistance, HistoriesMeet, IsDecidedWithin, HopeIsPossibility}
 use Rattle.cooperative.specs.Lost.{loss_of, loss_where, loss_at, AreListed, IsLoss, AreKeptOrLost, AreHistoryLosses}
 
 -- ranks of an arena are those of its rows
@@ -206,10 +208,26 @@ losses_of_histories s p duty m ranks distances numbers losses e arena meets c l 
     losses_there s duty m arena ranks distances numbers losses (subst (λ q. MeetsByDistance q duty m (number_at distances)) (sym e) meets)
     (subst (λ q. (at : ℕ) → at < m.size → IsLeastOrNone (λ n. FailsDutyWithin (locations q duty m) n at) (number_at numbers at)) (sym e) c) l
 
+-- where the decisions on the way are decided, what can be met is to be hoped for
+decided_reaches : (s : Aims) → GoesOnLegally s → (n : ℕ) (h : Word) → IsOver (width s.parts) h → IsLegalHistory s h → IsDecidedWithin s n h → CanMeetWithin (histories s) n h → (k : ℕ) × ReachesWithin (histories s) k h
+decided_reaches s g zero h o l f w = (zero, w)
+decided_reaches s g (suc n) h o l f (inl w) = (zero, w)
+decided_reaches s g (suc n) h o l f (inr (a, small, legal, w)) = elim (done_or_not s h) [
+  | inl m ↦ (zero, m)
+  | inr m ↦
+      let k = g.kept h (o, l) m a small legal in
+      let d = g.belongs h (o, l) m a small legal in
+      let c = decided_reaches s g n (one_more h a) k.0 k.1 ((f m).1 a small legal) w in
+      elim ((f m).0 (decision_of s.parts a) d) [
+        | inl v ↦ (v.0, reaches-by (histories s) v.0 h (decision_of s.parts a) d (reaches-won (histories s) v.0 h (decision_of s.parts a) v.1))
+        | inr v ↦ (suc c.0, inr (decision_of s.parts a, d, inr (v, output_of s.parts a, output_small s.parts a small, (a, own_round s.parts a small, legal, c.1))))
+      ]
+]
+
 -- hope is possibility on legal histories
 pub hope_is_possibility : HopeIsPossibility
 hope_is_possibility s g = record {
   met = λ h n o l r. hope_is_meeting (histories s) (λ h. IsOver (width s.parts) h × IsLegalHistory s h) g (λ h i. done_or_not s h) n h (o, l) r;
   never = λ h o l f n. out_of_reach_is_never_met (histories s) (λ h. IsOver (width s.parts) h × IsLegalHistory s h) g (λ h i. done_or_not s h) h (o, l) f n;
-  some = λ decided h n o l r. can_reaches (histories s) (λ h. IsOver (width s.parts) h × IsLegalHistory s h) g (λ h i. done_or_not s h) (λ h x i d. decided h x i.0 i.1 d) n h (o, l) r;
+  some = λ h n o l f r. decided_reaches s g n h o l f r;
 }

@@ -1,6 +1,7 @@
 -- What rows folded over the outputs have as values.
-use Rattle.std.proofs.Common.{◌≡◌, ℕ, ◌<◌, ◌≤◌, ◌+◌, suc, inl, inr, refl, sym, ◌∙◌, ap, subst, arith, true, false, List, length, Result, Ok, Err}
-use Rattle.std.specs.Prelude.{nat_lt, slice_index}
+use Rattle.std.proofs.Common.{◌≡◌, ◌≢◌, ℕ, ◌<◌, ◌≤◌, ◌+◌, suc, inl, inr, refl, sym, ◌∙◌, ap, subst, arith, true, false, List, length, Result, Ok, Err}
+use Rattle.std.specs.Prelude.{◌==◌, nat_lt, slice_index}
+use Rattle.std.proofs.lemmas.Bool.Decides.{nat_tests}
 use Rattle.std.specs.Result.{OnOk}
 use Rattle.diagrams.specs.declared.top.Id.{Id}
 use Rattle.diagrams.specs.declared.work.Op.TheVariants.{Least}
@@ -9,7 +10,7 @@ use Rattle.diagrams.specs.Eval.{Diagrams, eval, DependsOn}
 use Rattle.diagrams.specs.Live.{IsLive, IsTruth, Means}
 use Rattle.diagrams.specs.Folded.{IsExtreme}
 use Rattle.layers.specs.declared.folding.Below.{Below}
-use Rattle.layers.specs.declared.folding.Below.TheVariants.{Item, Place}
+use Rattle.layers.specs.declared.folding.Below.TheVariants.{Item, Place, Sink}
 use Rattle.layers.specs.Folding.{IsLeastItem, instead_of, IsInstead, IsLeastAfter, IsFoldedRow}
 use Rattle.layers.proofs.FoldedRows.{mixed, mixed_below, mixed_beyond}
 use Rattle.layers.proofs.Rounds.{below, beyond}
@@ -44,6 +45,28 @@ instead_number s n what table f id size x t e h q p m =
 pub instead_same : (s : Diagrams) (what : Below) (table : List ℕ) (f : Id) (size x : ℕ) → what ≡ Place size → size < x → IsLive s f → IsLeastItem s table f x → IsInstead s s what table f f
 instead_same s what table f size x e h l p =
     let is : nat_lt x (suc size) ≡ false = beyond (suc size) x (omega arith) in
+    record {
+      item = x;
+      least = p;
+      live = l;
+      value = λ a. sym (ap (λ w. instead_of w x (eval s f a)) e ∙ (rw is refl));
+    }
+
+-- the sink, where the least item is 0
+pub instead_sink : (s n : Diagrams) (what : Below) (table : List ℕ) (f id : Id) (sink x : ℕ) → what ≡ Sink sink → x ≡ 0 → IsLeastItem s table f x → Means n id (λ _. sink) → IsInstead s n what table f id
+instead_sink s n what table f id sink x e zero p m =
+    let is : (x == 0) ≡ true = grind (arith, nat_tests) in
+    record {
+      item = x;
+      least = p;
+      live = m.live;
+      value = λ a. m.value a ∙ sym (ap (λ w. instead_of w x (eval s f a)) e ∙ (rw is refl));
+    }
+
+-- what is there, where it isn't
+pub instead_kept : (s : Diagrams) (what : Below) (table : List ℕ) (f : Id) (sink x : ℕ) → what ≡ Sink sink → x ≢ 0 → IsLive s f → IsLeastItem s table f x → IsInstead s s what table f f
+instead_kept s what table f sink x e some l p =
+    let is : (x == 0) ≡ false = grind (arith, nat_tests) in
     record {
       item = x;
       least = p;

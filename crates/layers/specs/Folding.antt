@@ -8,7 +8,7 @@ use Rattle.diagrams.specs.Kept.{AllKept}
 use Rattle.diagrams.specs.Transformed.{item_value, same_id}
 use Rattle.attractor.specs.Graph.{number_at}
 use Rattle.layers.specs.declared.folding.Below.{Below}
-use Rattle.layers.specs.declared.folding.Below.TheVariants.{Item, Place}
+use Rattle.layers.specs.declared.folding.Below.TheVariants.{Item, Place, Sink}
 use Rattle.layers.specs.declared.folding.Folding.{Folding}
 
 -- x is the least of the table's items at the values of f
@@ -33,11 +33,13 @@ AllLeast s table found = (f : Id) (x : ℕ) → number_at found f.0 ≡ Some x �
 abbrev pub HasRoom : Below → Type 0
 HasRoom Item = Unit {0}
 HasRoom (Place size) = size + size + 1 < 2 ^ 32
+HasRoom (Sink sink) = Unit {0}
 
 -- what is put in place of the value t where y is the least item
 abbrev pub instead_of : Below → ℕ → ℕ → ℕ
 instead_of Item y t = y
 instead_of (Place size) y t = if nat_lt y (suc size) then suc size + y else t
+instead_of (Sink sink) y t = if y == 0 then sink else t
 
 -- the id is put in place of f, by its least item
 pub record IsInstead (s n : Diagrams) (below : Below) (table : List ℕ) (f id : Id) : Type 0 where

@@ -17,6 +17,8 @@ pub enum Below {
     Item,
     /// Where it is at most this size, the location of that number after the locations; else what the row has there.
     Place { size: u32 },
+    /// Where it is 0, this location; else what the row has there.
+    Sink { sink: u32 },
 }
 
 /// The least item that was found for a diagram.
@@ -86,6 +88,12 @@ fn instead(
             }
             store.terminal(size + 1 + item)
         }
+        Below::Sink { sink } => {
+            if item != 0 {
+                return Ok(f);
+            }
+            store.terminal(sink)
+        }
     }
 }
 
@@ -102,10 +110,9 @@ impl Folding {
     pub fn new(alloc: Global) -> Folding
         ensures { (s : Diagrams) (below : Below) (inputs : ℕ) (table : List ℕ) → IsRightFor s below inputs table result }
     {
-        Folding {
-            found: Vec::new(alloc),
-            made: Memo::new(alloc),
-        }
+        let found = Vec::new(alloc);
+        let made = Memo::new(alloc);
+        Folding { found, made }
     }
 }
 

@@ -1,5 +1,5 @@
 -- Restricting an automaton: its rows one by one.
-use Rattle.std.proofs.Common.{◌≡◌, ◌<◌, ◌+◌, ◌-◌, ◌^◌, ◌⊎◌, ◌↔◌, ◌++◌, ℕ, List, [], ◌∷◌, length, length-append, inl, inr, refl, sym, ◌∙◌, ap, subst, arith, Option, Some, None}
+use Rattle.std.proofs.Common.{◌≡◌, ◌≢◌, ◌<◌, ◌+◌, ◌-◌, ◌^◌, ◌⊎◌, ◌↔◌, ◌++◌, ℕ, List, [], ◌∷◌, length, length-append, inl, inr, refl, sym, ◌∙◌, ap, subst, arith, Option, Some, None}
 use Rattle.std.specs.Prelude.{slice_index}
 use Rattle.std.proofs.lemmas.List.{get_or_append_left, get_or_at}
 use Rattle.diagrams.specs.declared.top.Id.{Id}
@@ -13,7 +13,7 @@ use Rattle.automata.proofs.Lasts.{row_lasts}
 use Rattle.game.specs.Board.{Mover, Agent, Environment, Partition, width}
 use Rattle.legality.specs.Violation.{LeadsToNoRank, IsRestricted}
 use Rattle.attractor.specs.Graph.{number_at}
-use Rattle.legality.specs.Spared.{rank_mark, AreRankMarks, IsSpared, IsRestrictedRow, AreRestricted}
+use Rattle.legality.specs.Spared.{spare_mark, AreSpareMarks, IsSpared, IsRestrictedRow, AreRestricted}
 use Rattle.legality.proofs.LegalityLemmas.{spared_same}
 use Rattle.products.proofs.WatchingLemmas.{below_or_last}
 
@@ -45,6 +45,15 @@ row_stays p s n after table sink row id k r =
       value = λ a h. elim (r.value a h) [ inl (x, y) ↦ inl (x, e (letter_truth (width p) a) ∙ y) | inr (x, y) ↦ inr (x, e (letter_truth (width p) a) ∙ y) ];
     }
 
+-- no location yet
+pub restricted_none : (p : Partition) (s : Diagrams) (t : Table) (table marks : List ℕ) (rows : List Id) (sink : ℕ) → marks ≡ [] → rows ≡ [] → AreRestricted p s s t table marks rows sink 0
+restricted_none p s t table marks rows sink em er = record {
+  marks_count = ap length em;
+  rows_count = ap length er;
+  mark = λ at h. absurd (omega arith);
+  row = λ at h. absurd (omega arith);
+}
+
 -- one more location
 pub restricted_more : (p : Partition) (s n after : Diagrams) (t : Table) (table xs marks : List ℕ) (rows : List Id) (sink at mark : ℕ) (row id : Id) → Keeps s n → Keeps n after → Fits s t → at < size_of t
     → AreRestricted p s n t table marks rows sink at → mark ≡ mark_of t at → row ≡ row_of t at → xs ≡ table → IsRestrictedRow p n after xs sink row id
@@ -69,21 +78,26 @@ restricted_more p s n after t table xs marks rows sink at mark row id k grows fi
     }
 
 -- a rank's mark tells whether there is one
-mark_none : (o : Option ℕ) → rank_mark o ≡ 0 → o ≡ None
+mark_none : (o : Option ℕ) → spare_mark o ≢ 0 → o ≡ None
 mark_none None e = refl
-mark_none (Some n) e = absurd (omega arith)
+mark_none (Some n) e = absurd (e refl)
 
-spared_ranks : (d : Mover) (i o : ℕ) (item : ℕ → ℕ) (m : Moves) (rank : ℕ → Option ℕ) (at a : ℕ) → ((b : ℕ) → item b ≡ rank_mark (rank (m.next at b)))
+none_mark : (o : Option ℕ) → o ≡ None → spare_mark o ≢ 0
+none_mark None e z = omega arith
+none_mark (Some n) e z = cc
+
+spared_ranks : (d : Mover) (i o : ℕ) (item : ℕ → ℕ) (m : Moves) (rank : ℕ → Option ℕ) (at a : ℕ) → ((b : ℕ) → item b ≡ spare_mark (rank (m.next at b)))
     → (IsSpared (record { first = d; inputs = i; outputs = o }) item a ↔ LeadsToNoRank (record { first = d; inputs = i; outputs = o }) m rank at a)
-spared_ranks Agent i o item m rank at a e = (λ x. mark_none (rank (m.next at a)) (sym (e a) ∙ x), λ x. e a ∙ ap rank_mark x)
-spared_ranks Environment i o item m rank at a e = (λ x b h k. mark_none (rank (m.next at b)) (sym (e b) ∙ x b h k), λ x b h k. e b ∙ ap rank_mark (x b h k))
+spared_ranks Agent i o item m rank at a e = (λ x. mark_none (rank (m.next at a)) (λ z. x (e a ∙ z)), λ x z. none_mark (rank (m.next at a)) x (sym (e a) ∙ z))
+spared_ranks Environment i o item m rank at a e =
+    (λ x b h k. mark_none (rank (m.next at b)) (λ z. x b h k (e b ∙ z)), λ x b h k z. none_mark (rank (m.next at b)) (x b h k) (sym (e b) ∙ z))
 
 -- all that was made
 pub record IsRestrictMade (p : Partition) (s n : Diagrams) (t u : Table) (ranks : List (Option ℕ)) (table marks : List ℕ) (rows : List Id) (sink : ℕ) : Type 0 where
   pub keeps : Keeps s n
   pub fits : Fits s t
   pub props : width p ≡ s.props
-  pub items : AreRankMarks ranks table (size_of t)
+  pub items : AreSpareMarks ranks table (size_of t)
   pub made : AreRestricted p s n t table marks rows sink (size_of t)
   pub within : sink < size_of t
   pub first : u.first ≡ t.first
@@ -119,8 +133,8 @@ restrict_made p s n t u ranks table marks rows sink m stay =
     → (LeadsToNoRank p (moves_of s t) (number_at ranks) at a × (next_of n u at a ≡ next_of s t at a)) ⊎ ((¬ LeadsToNoRank p (moves_of s t) (number_at ranks) at a) × (next_of n u at a ≡ sink)) =
     λ at a h k.
     let item : ℕ → ℕ = λ b. slice_index table (eval s (row_of t at) (letter_truth (width p) b)) in
-    let same : (b : ℕ) → item b ≡ rank_mark (number_at ranks (next_of s t at b)) =
-    λ b. m.items.item (eval s (row_of t at) (letter_truth (width p) b)) ((m.fits at h).targets (letter_truth (width p) b)) ∙ ap (λ q. rank_mark (number_at ranks q)) (sym (old at b h)) in
+    let same : (b : ℕ) → item b ≡ spare_mark (number_at ranks (next_of s t at b)) =
+    λ b. m.items.item (eval s (row_of t at) (letter_truth (width p) b)) ((m.fits at h).targets (letter_truth (width p) b)) ∙ ap (λ q. spare_mark (number_at ranks q)) (sym (old at b h)) in
     let both = spared_ranks p.first p.inputs p.outputs item (moves_of s t) (number_at ranks) at a same in
     elim ((m.made.row at h).value a k) [
       | inl (x, e) ↦ inl (both.0 x, new at a ∙ e ∙ sym (old at a h))
@@ -141,26 +155,16 @@ pub row_in : (s n : Diagrams) (t : Table) (xs table : List ℕ) (at : ℕ) (f : 
 row_in s n t xs table at f k fits h ex size ef =
     subst (IsRow n (length xs)) (sym ef) (subst (λ z. IsRow n z (row_of t at)) (sym (ap length ex ∙ size)) (row_lasts s n k (size_of t) (row_of t at) (fits at h)))
 
--- the table's items are 0 and 1
-mark_small : (o : Option ℕ) → rank_mark o < 2
-mark_small None = omega arith
-mark_small (Some n) = omega arith
-
-pub marks_small : (ranks : List (Option ℕ)) (table xs : List ℕ) (count : ℕ) → xs ≡ table → AreRankMarks ranks table count → (at : ℕ) → at < length xs → slice_index xs at < 2
-marks_small ranks table xs count ex r at h =
-    let l : length xs ≡ count = ap length ex ∙ r.size in
-    subst (λ z. z < 2) (sym (ap (λ ys. slice_index ys at) ex ∙ r.item at (omega arith))) (mark_small (number_at ranks at))
-
 -- all steps together
 pub restrict_steps : (p : Partition) (s n : Diagrams) (t u : Table) (ranks : List (Option ℕ)) (table marks : List ℕ) (rows : List Id) (first size at count : ℕ) → Keeps s n → Fits s t → width p ≡ s.props
-    → count ≡ size_of t → AreRankMarks ranks table count → first < size_of t → size ≡ size_of t → at ≡ size_of t → AreRestricted p s n t table marks rows (size - 1) at
+    → count ≡ size_of t → AreSpareMarks ranks table count → first < size_of t → size ≡ size_of t → at ≡ size_of t → AreRestricted p s n t table marks rows (size - 1) at
     → u.first ≡ t.first → u.marks ≡ marks → u.rows ≡ rows → IsRestrictMade p s n t u ranks table marks rows (size_of t - 1)
 restrict_steps p s n t u ranks table marks rows first size at count k fits w ec items hf es ea made ef em er =
     record {
       keeps = k;
       fits = fits;
       props = w;
-      items = subst (AreRankMarks ranks table) ec items;
+      items = subst (AreSpareMarks ranks table) ec items;
       made = subst (λ z. AreRestricted p s n t table marks rows (z - 1) (size_of t)) es (subst (AreRestricted p s n t table marks rows (size - 1)) ea made);
       within = omega arith;
       first = ef;

@@ -1,7 +1,6 @@
 //! Where the agent can violate what is assumed, and the automaton of legal histories.
 ghost use Rattle.std.specs.Prelude.{◌≡◌, ◌<◌, ◌+◌, ◌-◌, ◌^◌, ◌≤◌, length, ℕ, slice_index, [], Some, IfOk, OnOk, IfErr};
-ghost use Rattle.diagrams.specs.Eval.{DependsOn, eval};
-ghost use Rattle.diagrams.specs.Live.{Keeps, IsLive, IsTruth, Means};
+ghost use Rattle.diagrams.specs.Live.{Keeps};
 ghost use Rattle.automata.specs.Table.{size_of, Fits, IsRow, moves_of, next_of};
 ghost use Rattle.game.specs.Board.{width};
 ghost use Rattle.legality.specs.Violation.{AreViolationRanks, AreWatchedRows, IsRestricted};
@@ -9,24 +8,26 @@ ghost use Rattle.game.specs.Histories.{IsKeepable};
 ghost use Rattle.legality.specs.Legal.{claim_of, keeping, TellsLegal, IsRightFault, ArePlayable};
 ghost use Rattle.attractor.specs.Graph.{number_at};
 ghost use Rattle.layers.specs.ArenaRows.{agent_sides};
-ghost use Rattle.legality.specs.Spared.{rank_mark, AreRankMarks, TellsSpared, IsRestrictedRow};
+ghost use Rattle.layers.specs.Folding.{IsRightFor, IsFoldedRow};
+ghost use Rattle.legality.specs.Spared.{spare_mark, AreSpareMarks, telling_count};
 
 use crate::fault::ArenaFault;
 use attractor::{Sides, attract};
 use automata::Automaton;
 use bes_io::Memory;
-use diagrams::{Id, Op, Store};
+use diagrams::{Id, Store};
 use forms::{Mover, Partition};
+use layers::{Below, Folding, fold_row};
 use products::watch;
 use std::alloc::Global;
 
-/// 1 for a rank, and 0 for none.
-fn mark_of_rank(rank: Option<usize>) -> u32
-    ensures { result ≡ rank_mark rank }
+/// 0 for a rank, and 1 for none.
+fn spare_mark(rank: Option<usize>) -> u32
+    ensures { result ≡ spare_mark rank }
 {
     match rank {
-        Some(_) => 1,
-        None => 0,
+        Some(_) => 0,
+        None => 1,
     }
 }
 
@@ -38,54 +39,45 @@ fn rank_of(ranks: &[Option<usize>], at: u32) -> Option<usize>
     ranks[at as usize]
 }
 
-/// 1 for each of the first so many locations with a rank, and 0 for each other one.
-fn ranked(alloc: Global, ranks: &[Option<usize>], size: u32) -> Result<Vec<u32>, Memory>
+/// 0 for each of the first so many locations with a rank, and 1 for each other one.
+fn spare_marks(alloc: Global, ranks: &[Option<usize>], size: u32) -> Result<Vec<u32>, Memory>
     requires { size ≤ length ranks.now }
-    ensures { IfOk result (λ table. AreRankMarks ranks.now table.items size) }
+    ensures { IfOk result (λ table. AreSpareMarks ranks.now table.items size) }
 {
     let mut table = Vec::new(alloc);
     for at in 0..size {
-        table.push(mark_of_rank(rank_of(ranks, at)))?;
+        table.push(spare_mark(rank_of(ranks, at)))?;
     }
     Ok(table)
 }
 
-/// 1 at the letters that aren't spared: agent first those where the diagram is 1, environment first those whose input has
-/// such a letter.
-fn not_spared(store: &mut Store, partition: &Partition, bad: Id) -> Result<Id, Memory>
-    requires width { width partition.now ≡ store.old.props }
-    requires truth { IsTruth store.old bad }
-    requires letters { DependsOn store.old bad (λ v. v < store.old.props) }
-    ensures keeps { Keeps store.old store.new }
-    ensures tells { IfOk result (λ id. TellsSpared partition.now store.old store.new bad id) }
+/// How many propositions tell whether a letter is spared: agent first all, environment first the inputs.
+fn telling_count(partition: &Partition) -> u32
+    requires { width partition.now ≤ 32 }
+    ensures { result ≡ telling_count partition.now }
 {
-    prove!(store.props() <= 32);
-    let inputs = partition.inputs;
-    let outputs = partition.outputs;
     match partition.first {
-        Mover::Agent => Ok(bad),
-        Mover::Environment => store.fold(Op::Greatest, bad, inputs, inputs + outputs),
+        Mover::Agent => partition.inputs + partition.outputs,
+        Mover::Environment => partition.inputs,
     }
 }
 
-/// The row with each letter that isn't spared led to the sink.
+/// The row with each letter led to the sink where some letter with the same first propositions, so many of them, has the item 0.
 fn restricted(
     store: &mut Store,
-    partition: &Partition,
+    folding: &mut Folding,
     row: Id,
     table: &[u32],
     sink: u32,
+    telling: u32,
 ) -> Result<Id, Memory>
-    requires width { width partition.now ≡ store.old.props }
     requires row { IsRow store.old (length table.now) row }
-    requires table { (at : ℕ) → at < length table.now → slice_index table.now at < 2 }
+    requires right { IsRightFor store.old (Below.Sink sink) telling table.now folding.old }
     ensures keeps { Keeps store.old store.new }
-    ensures row { IfOk result (λ id. IsRestrictedRow partition.now store.old store.new table.now sink row id) }
+    ensures right { OnOk result (IsRightFor store.new (Below.Sink sink) telling table.now folding.new) }
+    ensures row { IfOk result (λ id. IsFoldedRow store.old store.new (Below.Sink sink) telling table.now row id) }
 {
-    let bad = store.map_terminals(row, table)?;
-    let illegal = not_spared(store, partition, bad)?;
-    let away = store.terminal(sink)?;
-    store.ite(illegal, away, row)
+    fold_row(store, folding, row, table, Below::Sink { sink }, telling)
 }
 
 /// The automaton with each letter that leads to a rank led to its last location, which is the sink; environment first, each
@@ -110,12 +102,21 @@ fn restrict(
     prove!(automaton.first() < automaton.size());
     let size = automaton.size();
     let sink = size - 1;
-    let table = ranked(alloc, ranks, size)?;
+    let table = spare_marks(alloc, ranks, size)?;
+    let telling = telling_count(partition);
+    let mut folding = Folding::new(alloc);
     let mut marks = Vec::new(alloc);
     let mut rows = Vec::new(alloc);
     for at in 0..size {
         marks.push(automaton.mark(at))?;
-        rows.push(restricted(store, partition, automaton.row(at), &table, sink)?)?;
+        rows.push(restricted(
+            store,
+            &mut folding,
+            automaton.row(at),
+            &table,
+            sink,
+            telling,
+        )?)?;
     }
     Ok(Automaton::new(automaton.first(), marks, rows))
 }

@@ -7,7 +7,7 @@ use Rattle.diagrams.specs.declared.top.Id.{Id}
 use Rattle.diagrams.specs.Tree.{Assignment}
 use Rattle.diagrams.specs.Eval.{Diagrams, eval, id_at, letter_truth}
 use Rattle.diagrams.specs.Live.{Keeps, Means}
-use Rattle.diagrams.specs.Transformed.{item_value}
+use Rattle.diagrams.specs.Transformed.{Transforms, IsTableItem, item_value}
 use Rattle.diagrams.proofs.Meaning.{eval-lasts, means_lasts, Keeps_trans}
 use Rattle.automata.specs.Table.{Table, size_of, mark_of, row_of, Fits, IsRow, moves_of}
 use Rattle.products.specs.Watch.{IsWatching}
@@ -23,6 +23,15 @@ none = record { 0 = 0 }
 
 pub below_or_last : (i n : ℕ) → i < n + 1 → (i < n) ⊎ (i ≡ n)
 below_or_last i n h = elim (cases_lt i n) [ inl l ↦ inl l | inr l ↦ inr (omega arith) ]
+
+-- no location yet
+pub watched_none : (s : Diagrams) (t : Table) (table marks : List ℕ) (rows : List Id) → marks ≡ [] → rows ≡ [] → AreWatched s s t table marks rows 0
+watched_none s t table marks rows em er = record {
+  marks_count = ap length em;
+  rows_count = ap length er;
+  mark = λ at h. absurd (omega arith);
+  row = λ at h. absurd (omega arith);
+}
 
 pub watched_more : (s n after : Diagrams) (t : Table) (table marks : List ℕ) (rows : List Id) (at mark : ℕ) (id : Id) → Keeps s n → Keeps n after → Fits s t → at < size_of t
     → AreWatched s n t table marks rows at → mark ≡ 0 → Means after id (item_value n table (row_of t at)) → AreWatched s after t table (marks ++ mark ∷ []) (rows ++ id ∷ []) (at + 1)
@@ -171,14 +180,14 @@ table_fits s n t table xs at f k fits h size ex ef a =
     let l : length xs ≡ size_of t = ap length ex ∙ size in
     omega arith
 
-pub means_same : (n after : Diagrams) (id f g : Id) (xs table : List ℕ) → xs ≡ table → f ≡ g → Means after id (item_value n xs f) → Means after id (item_value n table g)
+pub means_same : (n after : Diagrams) (id f g : Id) (xs table : List ℕ) → xs ≡ table → f ≡ g → Transforms n after (IsTableItem xs) f id → Means after id (item_value n table g)
 means_same n after id f g xs table ex ef m =
     record { live = m.live; value = λ a. m.value a ∙ ap (λ ys. slice_index ys (eval n f a)) ex ∙ ap (λ i. slice_index table (eval n i a)) ef }
 
 -- all that was made
 pub watch_steps : (s n n2 e : Diagrams) (t u : Table) (table xs marks : List ℕ) (rows : List Id) (begin sink f : Id) (v size at k first : ℕ) → Keeps s n → Keeps n n2 → Keeps n2 e → Fits s t
     → first ≡ t.first → first < size_of t → IsKeptOr t k table (size_of t) → k ≡ size + 1 → size ≡ size_of t → AreWatched s n t table marks rows at → at ≡ size_of t
-    → Means n2 begin (item_value n xs f) → xs ≡ table → f ≡ row_of t first → Means e sink (λ _. k) → u.first ≡ size → u.marks ≡ (marks ++ 0 ∷ []) ++ v ∷ [] → u.rows ≡ (rows ++ begin ∷ []) ++ sink ∷ []
+    → Transforms n n2 (IsTableItem xs) f begin → xs ≡ table → f ≡ row_of t first → Means e sink (λ _. k) → u.first ≡ size → u.marks ≡ (marks ++ 0 ∷ []) ++ v ∷ [] → u.rows ≡ (rows ++ begin ∷ []) ++ sink ∷ []
     → IsWatchMade s e t u table marks rows begin sink v
 watch_steps s n n2 e t u table xs marks rows begin sink f v size at k first k0 k1 k2 fits ef hf kept ek es w ea m ex er stay eu em ew =
     let q : k ≡ size_of t + 1 = ek ∙ ap (λ z. z + 1) es in

@@ -18,6 +18,14 @@ pub record IsJoin (p : ℕ) (a b j : Moves) : Type 0 where
   pub goes_right : (at x : ℕ) → at < j.size → x < 2 ^ p → is_end (j.mark at) ≡ false → right (j.next at x) ≡ b.next (right at) x
   pub stays : (at x : ℕ) → at < j.size → x < 2 ^ p → is_end (j.mark at) ≡ true → j.next at x ≡ at
 
+-- m, but that each end leads to itself
+pub record IsStopped (p : ℕ) (m e : Moves) : Type 0 where
+  pub size : e.size ≡ m.size
+  pub first : e.first ≡ m.first
+  pub mark : (at : ℕ) → at < m.size → e.mark at ≡ m.mark at
+  pub goes : (at x : ℕ) → at < m.size → x < 2 ^ p → is_end (m.mark at) ≡ false → e.next at x ≡ m.next at x
+  pub stays : (at x : ℕ) → at < m.size → x < 2 ^ p → is_end (m.mark at) ≡ true → e.next at x ≡ at
+
 -- m with one more location, for words that went past a location with the mark 1
 pub record IsEnded (p : ℕ) (m e : Moves) : Type 0 where
   pub size : e.size ≡ m.size + 1

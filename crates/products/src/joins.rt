@@ -1,14 +1,16 @@
 //! The automaton that goes as two others do at once.
-ghost use Rattle.std.specs.Prelude.{◌≡◌, ◌<◌, ◌+◌, ◌^◌, ◌-◌, length, slice_get, Some, OnOk, IfOk};
+ghost use Rattle.std.specs.Prelude.{◌≡◌, ◌<◌, ◌+◌, ◌^◌, ◌-◌, length, slice_get, Some, true, OnOk, IfOk};
 ghost use Rattle.diagrams.specs.Eval.{Diagrams};
 ghost use Rattle.diagrams.specs.Kept.{AllKept};
 ghost use Rattle.diagrams.specs.Live.{Keeps};
 ghost use Rattle.automata.specs.Table.{size_of, Fits, moves_of};
 ghost use Rattle.products.specs.Places.{same_rows, ArePlaces, Grows, IsPaired};
 ghost use Rattle.products.specs.Joins.{IsJoin};
+ghost use Rattle.products.specs.Stops.{IsIdle};
 ghost use Rattle.products.specs.Joining.{mark_at, IsJoinRow, AreNewWithin, IsJoining};
 
 use crate::places::{Place, Rows, number, walked};
+use crate::stops::stopped;
 use automata::Automaton;
 use bes_io::Memory;
 use diagrams::{Id, Memo, Store};
@@ -107,9 +109,8 @@ fn begin(alloc: Global, a: &Automaton, b: &Automaton) -> Result<Joining, Memory>
     })
 }
 
-/// The automaton of the pairs of locations that words reach. Its marks are the greater ones, and a location with the
-/// mark 1 or 3 leads to itself.
-pub fn join(
+/// The automaton of the pairs of locations that words reach.
+fn paired(
     alloc: Global,
     store: &mut Store,
     a: &Automaton,
@@ -128,4 +129,36 @@ pub fn join(
         follow(store, &mut memo, &mut joining, a, b, place)?;
     }
     Ok(Automaton::new(0, joining.marks, joining.rows))
+}
+
+/// Whether the automaton has one location alone, with the mark 0.
+fn is_idle(automaton: &Automaton) -> bool
+    ensures { result ≡ true → IsIdle automaton.now }
+{
+    automaton.size() == 1 && automaton.mark(0) == 0
+}
+
+/// An automaton that goes as both do. Its marks are the greater ones, and a location with the mark 1 or 3 leads to itself.
+/// It is made of the pairs of locations that words reach, but where one of the two has nothing to tell.
+pub fn join(
+    alloc: Global,
+    store: &mut Store,
+    a: &Automaton,
+    b: &Automaton,
+) -> Result<Automaton, Memory>
+    requires a { Fits store.old a.now }
+    requires b { Fits store.old b.now }
+    ensures keeps { Keeps store.old store.new }
+    ensures fits { IfOk result (λ made. Fits store.new made) }
+    ensures join { IfOk result (λ made. IsJoin store.new.props (moves_of store.new a.now) (moves_of store.new b.now) (moves_of store.new made)) }
+{
+    prove!(a.first() < a.size());
+    prove!(b.first() < b.size());
+    if is_idle(a) {
+        return stopped(alloc, store, b);
+    }
+    if is_idle(b) {
+        return stopped(alloc, store, a);
+    }
+    paired(alloc, store, a, b)
 }

@@ -8,6 +8,7 @@
 mod ends;
 mod joins;
 mod places;
+mod stops;
 mod watching;
 
 pub use ends::ended;

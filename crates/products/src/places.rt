@@ -6,7 +6,7 @@ ghost use Rattle.diagrams.specs.Live.{IsLive, Keeps};
 ghost use Rattle.products.specs.Places.{same_rows, ArePlaces, AreMet, Grows, IsPairing, IsPaired};
 
 use bes_io::Memory;
-use diagrams::{Id, Look, Memo, Store, cofactors, least_variable};
+use diagrams::{Id, Look, Memo, Spread, Store, cofactors, least_variable, spread_of};
 use indexmap::IndexSet;
 use std::alloc::Global;
 
@@ -22,6 +22,12 @@ pub(crate) struct Place {
 pub(crate) struct Rows {
     pub(crate) left: Id,
     pub(crate) right: Id,
+}
+
+impl Spread for Rows {
+    fn spread(&self) -> u64 {
+        spread_of(self.left.0, self.right.0, 0)
+    }
 }
 
 /// The number of a place, which is the next one if it is new.

@@ -9,7 +9,7 @@ ghost use Rattle.products.specs.Watching.{IsKeptOr};
 
 use automata::Automaton;
 use bes_io::Memory;
-use diagrams::Store;
+use diagrams::{Memo, Store};
 use std::alloc::Global;
 
 /// For each location of an automaton itself where it accepts, else the sink.
@@ -44,14 +44,16 @@ pub fn watch(
     }
     let sink = size + 1;
     let table = kept_or(alloc, automaton, sink)?;
+    let mut memo = Memo::new(alloc);
     let mut marks = Vec::new(alloc);
     let mut rows = Vec::new(alloc);
     for at in 0..size {
         marks.push(0)?;
-        rows.push(store.map_terminals(automaton.row(at), &table)?)?;
+        rows.push(store.map_terminals_with(&mut memo, automaton.row(at), &table)?)?;
     }
     marks.push(0)?;
-    rows.push(store.map_terminals(automaton.row(automaton.first()), &table)?)?;
+    let begin = automaton.row(automaton.first());
+    rows.push(store.map_terminals_with(&mut memo, begin, &table)?)?;
     marks.push(violated)?;
     rows.push(store.terminal(sink)?)?;
     Ok(Automaton::new(size, marks, rows))

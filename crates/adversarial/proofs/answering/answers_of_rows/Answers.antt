@@ -3,8 +3,9 @@ use Rattle.diagrams.proofs.Meaning.{Keeps_refl, Keeps_trans}
 use Rattle.diagrams.specs.Eval.{id_at}
 use Rattle.attractor.specs.Graph.{number_at}
 use Rattle.layers.specs.declared.folding.Below.TheVariants.{Item}
-use Rattle.layers.specs.Folding.{IsRightFor}
-use Rattle.adversarial.specs.Answered.{IsChosen, AreChosen}
+use Rattle.diagrams.specs.Transformed.{IsTransformed, IsTableItem, same_id}
+use Rattle.diagrams.proofs.Kept.{kept_none}
+use Rattle.adversarial.specs.Answered.{IsRightSoFar, IsChosen, AreChosen}
 use Rattle.adversarial.proofs.OverArena.{rows_again}
 use Rattle.adversarial.proofs.AnswerDiagrams.{chosen_diagrams}
 use Rattle.adversarial.proofs.ChosenLemmas.{row_now, chosen_more, chosen_from, chosen_answers}
@@ -26,7 +27,10 @@ pub loop-at-init : goal.loop-at-init
 loop-at-init c = (
   Keeps_refl c.args.store.now c.props.ensures.canonical,
   record { size = ap length c.new-made.ensures; each = λ at h. absurd (omega arith) },
-  c.new-folding.ensures c.args.store.now Item c.agent_sides-sides.result.before c.in_ok-table.table.items,
+  record {
+    folding = c.new.ensures c.args.store.now Item c.agent_sides-sides.result.before c.in_ok-table.table.items;
+    coded = kept_none same_id (IsTransformed c.args.store.now (IsTableItem c.in_ok-table.table.items)) c.new-2.result c.new-2.ensures;
+  },
 )
 
 pub loop-at-preserved : goal.loop-at-preserved
@@ -42,7 +46,7 @@ loop-at-preserved c =
       subst (λ ms. AreChosen c.args.store.now c.answer_unless.new.store c.agent_sides-sides.result.lesser_before c.agent_sides-sides.result.before c.in_ok-table.table.items c.args.rows.now c.args.ranks.now ms (c.loop-at.at + 1)) (sym c.in_ok-push.ensures.ok)
           (chosen_more c.args.store.now c.loop-at.store c.answer_unless.new.store keeps c.agent_sides-sides.result.lesser_before c.agent_sides-sides.result.before c.in_ok-table.table.items c.args.rows.now c.args.ranks.now c.loop-at.made c.loop-at.at
           c.in_ok-answer_unless.field-0 c.loop-at.invariant.1 here),
-      subst (λ t. IsRightFor c.answer_unless.new.store Item c.agent_sides-sides.result.before t c.answer_unless.new.folding) c.deref.ensures.value c.in_ok-answer_unless.ensures.right,
+      subst (λ t. IsRightSoFar c.answer_unless.new.store c.agent_sides-sides.result.before t c.answer_unless.new.answering) c.deref.ensures.value c.in_ok-answer_unless.ensures.right,
     )
 
 pub returns-clause-answers : goal.returns-clause-answers

@@ -1,4 +1,4 @@
-use Rattle.std.proofs.Common.{◌<◌, ◌≤◌, sym, arith, length}
+use Rattle.std.proofs.Common.{◌<◌, ◌≤◌, arith, length}
 use Rattle.std.proofs.lemmas.Result.{IfOk-weaker, on_ok_weaker}
 use Rattle.diagrams.specs.Eval.{tree}
 use Rattle.diagrams.specs.Transformed.{same_id}
@@ -29,7 +29,7 @@ returns-then-var-inputs-clause-row t c =
     c.instead-then-var-inputs.ensures.id
 
 pub returns-in-Some-clause-row : goal.returns-in-Some-clause-row
-returns-in-Some-clause-row t c = (c.requires.right.made c.args.f c.in-Some.row (sym c.in-Some.ensures)).row_is
+returns-in-Some-clause-row t c = (c.requires.right.made c.args.f c.in-Some.row c.in-Some.ensures).row_is
 
 pub fold_row-requires : goal.fold_row-requires
 fold_row-requires t c =

@@ -1,4 +1,4 @@
-use Rattle.std.proofs.Common.{sym, ◌+◌, ◌<◌, arith}
+use Rattle.std.proofs.Common.{◌+◌, ◌<◌, arith}
 use Rattle.diagrams.specs.Eval.{tree}
 use Rattle.diagrams.proofs.Canon.{tree_size}
 use Rattle.diagrams.proofs.Meaning.{live-above, live_lasts, top_is, Keeps_trans}
@@ -20,7 +20,7 @@ returns-in-Terminal-Terminal-clause-id t c =
     c.in_ok-at.ensures.at c.terminal.ensures.id
 
 pub returns-in-Some-clause-id : goal.returns-in-Some-clause-id
-returns-in-Some-clause-id t c = (c.requires.kept (record { left = c.args.left; right = c.args.right }) c.in-Some.id (sym c.in-Some.ensures)).pairing
+returns-in-Some-clause-id t c = (c.requires.kept (record { left = c.args.left; right = c.args.right }) c.in-Some.id c.in-Some.ensures).pairing
 
 pub walked-requires : goal.walked-requires
 walked-requires t c =

@@ -3,7 +3,7 @@ use Rattle.diagrams.specs.Kept.{AllKept}
 use Rattle.diagrams.specs.Live.{Keeps}
 use Rattle.products.specs.Places.{same_rows, IsPaired}
 use Rattle.products.specs.Joining.{IsJoining}
-use Rattle.products.proofs.joins.join.Given as goal
+use Rattle.products.proofs.joins.paired.Given as goal
 
 abbrev pub invariant-loop-place : goal.invariant-loop-place
 invariant-loop-place l =
