@@ -26,7 +26,7 @@ rule_back rules.Losses = refl
 rule_back rules.LossNumbers = refl
 
 -- rules have different numbers
-one_rule : (r s : Rule) → number_of r ≡ number_of s → r ≡ s
+pub one_rule : (r s : Rule) → number_of r ≡ number_of s → r ≡ s
 one_rule r s e = let f : Some r ≡ Some s = sym (rule_back r) ∙ (ap rule_of e ∙ rule_back s) in cc
 
 -- of two numbers that are each not below the other

@@ -3,8 +3,11 @@ use Rattle.std.proofs.Common.{◌≡◌, ◌≢◌, ◌<◌, inl, inr, ℕ, zero
 use Rattle.game.specs.Winning.{WinsWithin}
 use Rattle.game.specs.Following.{RefutesWithin}
 use Rattle.game.specs.Marks.{Mark, Goal, Win, Pending, Lost, Held, LostIn, HasMark, HasDecisionMark, IsOutOfReach, IsDecisionOutOfReach}
+use Rattle.game.specs.Numbers.{IsLeastNumber}
+use Rattle.printed_strategy.specs.Printed.{IsVerdict}
 use Rattle.certificate_rules.specs.Certificate.{Certificate, board, mark_at, answers_at, Decides, HasDuty}
-use Rattle.certificate_rules.specs.Rules.{IsValid, IsWon, IsOutMark, IsLossBelow, IsValued}
+use Rattle.certificate_rules.specs.Rules as rules
+use Rattle.certificate_rules.specs.Rules.{IsValid, IsWon, IsOutMark, IsLossBelow, IsValued, IsRankVerdict}
 use Rattle.certificate_rules.specs.Right.{IsFitting, IsMarkOf, IsRight}
 use Rattle.certificate_rules.proofs.Everywhere.{Everywhere, everywhere, won_of_rank, not_goal, win_no_goal, pending_no_goal}
 use Rattle.certificate_rules.proofs.Wins.{wins, forces, rank_of_wins, rank_of_decision, decision_wins, decision_forces}
@@ -125,12 +128,23 @@ refutes c v (suc n) q nw =
     let ne : mark_at c q ≢ Goal = λ g. nw (subst W (sym g) tt) in
     (ne, each_from (answers_at c q) _ _ (λ input h y out. let s = h y out in (s.0, s.1, s.2, refutes c v n ((board c).after q s.0) s.3)) (v.answered q ne nw))
 
+-- the verdict is the rank of location 0
+verdict_by : (c : Certificate) → Everywhere c → IsFitting c → (o : Option ℕ) (m : Mark) → mark_at c 0 ≡ m → IsRankVerdict o m → IsVerdict (board c) 0 o
+verdict_by c v f (Some n) Goal e h = let P : ℕ → Type 0 = λ z. WinsWithin (board c) z 0 in record { holds = subst P (sym h) e; least = λ k lt w. absurd (omega arith) }
+verdict_by c v f (Some n) (Win k) e h = let P : ℕ → Type 0 = λ z. IsLeastNumber (λ k. WinsWithin (board c) k 0) z in subst P (sym h) (mark_of c v f 0 (Win k) e).1
+verdict_by c v f (Some n) (Pending k) e h = absurd h
+verdict_by c v f (Some n) Lost e h = absurd h
+verdict_by c v f (Some n) Held e h = absurd h
+verdict_by c v f (Some n) (LostIn k) e h = absurd h
+verdict_by c v f None m e h = λ k. no_win c v f 0 k (λ w. let W : Mark → Type 0 = λ z. IsWon z in h (subst W e w))
+
 -- a valid certificate is right
 pub right_of_valid : (c : Certificate) → IsFitting c → IsValid c → IsRight c
 right_of_valid c f valid =
     let v = everywhere c valid in
     let W : Mark → Type 0 = λ z. IsWon z in
     record {
+      verdict = verdict_by c v f c.verdict (mark_at c 0) refl (valid rules.Verdict 0 f.some refl);
       marks = λ q. mark_of c v f q (mark_at c q) refl;
       decisions = λ q x m y ne d. decision_mark c v f q x m y ne d;
       forced = λ q n e. forces c v f n q (Win n) e (omega arith);

@@ -1,7 +1,8 @@
 -- What the marks, moves and answers of a certificate mean in its game.
-use Rattle.std.specs.Prelude.{◌≡◌, ◌≢◌, ◌<◌, ◌^◌, ℕ, Bool, true, false}
+use Rattle.std.specs.Prelude.{◌≡◌, ◌≢◌, ◌<◌, ◌^◌, ℕ, length, Bool, true, false}
 use Rattle.game.specs.Marks.{Mark, Goal, Win, Pending, Lost, Held, LostIn, HasMark, HasDecisionMark}
 use Rattle.game.specs.Following.{ForcesWithin, ForcesFrom, LeavesOpenWithin, LeavesOpenFrom, HoldsDutyWithin, HoldsDutyFrom, RefutesWithin}
+use Rattle.printed_strategy.specs.Printed.{IsVerdict}
 use Rattle.certificate_rules.specs.Certificate.{Certificate, board, mark_at, answers_at, moves_of, Decides}
 use Rattle.certificate_rules.specs.Rules.{IsWon}
 
@@ -20,12 +21,15 @@ pub record IsChoiceOf (c : Certificate) (m : Mark) (y : ℕ) : Type 0 where
 
 -- what the lines of a text give by their form alone, of which the laws have need
 pub record IsFitting (c : Certificate) : Type 0 where
+  pub some : 0 < length c.locations
   pub marks : (q : ℕ) → IsMarkOf c.has_duty (mark_at c q)
   pub choices : (q x : ℕ) (m : Mark) (y : ℕ) → Decides c q x m y → IsChoiceOf c m y
 
--- What the marks of a certificate promise: each is the mark of the game; moves force where it says `win`, leave open where
--- it says `open`, and keep the duty where it says `held`; and answers refute every number where it is not won.
+-- What a certificate promises: the verdict is that of location 0, and each mark that of the game; moves force where it says
+-- `win`, leave open where it says `open`, and keep the duty where it says `held`; and answers refute every number where it is
+-- not won.
 pub record IsRight (c : Certificate) : Type 0 where
+  pub verdict : IsVerdict (board c) 0 c.verdict
   pub marks : (q : ℕ) → HasMark (board c) q (mark_at c q)
   pub decisions : (q x : ℕ) (m : Mark) (y : ℕ) → mark_at c q ≢ Goal → Decides c q x m y → HasDecisionMark (board c) q x m
   pub forced : (q n : ℕ) → mark_at c q ≡ Win n → ForcesWithin (board c) (moves_of c) n q

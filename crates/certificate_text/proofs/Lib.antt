@@ -1,6 +1,9 @@
 pub mod AskedLemmas
 pub mod CubeLemmas
 pub mod LineLemmas
+pub mod LevelLemmas
+pub mod ExactLemmas
+pub mod CubeLevelLemmas
 pub mod AskingLemmas
 pub mod WholeLemmas
 pub mod DigitLemmas

@@ -1,12 +1,12 @@
 -- Laws of questions over assignments, of whole lists, and of what targets are asked for.
-use Rattle.std.specs.Prelude.{◌≡◌, ◌<◌, ◌^◌, ◌+◌, ◌*◌, ◌++◌, ◌↔◌, ℕ, List, Bool, true, Option, IsSome}
-use Rattle.game.specs.Marks.{Held}
-use Rattle.certificate_rules.specs.Cubes.{Entry, field_at, IsWhole}
-use Rattle.certificate_rules.specs.Rules as rules
-use Rattle.certificate_text.specs.Asked.{Each, Any, asked, levels, levels_at}
-use Rattle.certificate_text.specs.Lines.{won, rank_below, out, held, loss_below}
-use Rattle.certificate_text.specs.Marks.{mark_of}
+use Rattle.std.specs.Prelude.{◌≡◌, ◌<◌, ◌^◌, ◌+◌, ◌*◌, ◌++◌, ◌↔◌, ℕ, List, Bool, true, not, length, Option, IsSome, Some, take, drop}
+use Rattle.certificate_rules.specs.Cubes.{Entry, agrees, field_at, IsWhole}
+use Rattle.certificate_text.specs.Asked.{Level, Each, Any, asked, levels, levels_at, cube_levels}
+use Rattle.certificate_text.specs.Exact.{AreCharacters, IsLine, IsExact}
+use Rattle.certificate_text.specs.Lines.{rows, meets}
+use Rattle.certificate_text.specs.Marks.{mark_of, IsMetBy}
 use Rattle.certificate_text.specs.declared.marks.CertMark.{CertMark}
+use Rattle.certificate_text.specs.declared.marks.Test.{Test}
 
 -- of n propositions, each assignment has p
 abbrev pub EachIsAsked : Type 0
@@ -32,14 +32,27 @@ OneEachIsAsked = (m n y : ℕ) (p : ℕ → Bool) → y < 2 ^ m → (asked (leve
 abbrev pub OneSomeIsAsked : Type 0
 OneSomeIsAsked = (m n y : ℕ) (p : ℕ → Bool) → y < 2 ^ m → (asked (levels_at m y ++ levels Any n) p ≡ true) ↔ ((x : ℕ) × (x < 2 ^ n) × (p (y * 2 ^ n + x) ≡ true))
 
--- a whole list of rounds gives each letter a field
-abbrev pub WholeGivesEach : Type 0
-WholeGivesEach = (k : ℕ) (es : List (Entry (Option ℕ))) (a : ℕ) → IsWhole k es → a < 2 ^ k → IsSome (field_at es a)
+-- each front for which a cube stands is as is asked
+abbrev pub CubeIsAsked : Type 0
+CubeIsAsked = (cube : List ℕ) (ls : List Level) (p : ℕ → Bool) → AreCharacters cube
+    → (asked (cube_levels cube ++ ls) p ≡ true) ↔ ((x : ℕ) → x < 2 ^ length cube → agrees cube x ≡ true → asked ls (λ b. p (x * 2 ^ length ls + b)) ≡ true)
 
--- what the program asks of marks is what the rules say of them
-pub record TestsAreOfRules : Type 0 where
-  pub won : (m : CertMark) → (won m ≡ true) ↔ rules.IsWon (mark_of m)
-  pub rank : (n : ℕ) (m : CertMark) → (rank_below n m ≡ true) ↔ rules.IsRankBelow n (mark_of m)
-  pub out : (m : CertMark) → (out m ≡ true) ↔ rules.IsOutMark (mark_of m)
-  pub held : (m : CertMark) → (held m ≡ true) ↔ (mark_of m ≡ Held)
-  pub loss : (n : ℕ) (m : CertMark) → (loss_below n m ≡ true) ↔ rules.IsLossBelow n (mark_of m)
+-- some assignment fails p exactly where not each has it
+abbrev pub SomeFailsIsNotEach : Type 0
+SomeFailsIsNotEach = (n : ℕ) (p : ℕ → Bool) → ((a : ℕ) × (a < 2 ^ n) × (not (p a) ≡ true)) ↔ (¬ ((a : ℕ) → a < 2 ^ n → p a ≡ true))
+
+-- a whole list gives each assignment a field
+abbrev pub WholeGivesEach : Type 0
+WholeGivesEach = (k : ℕ) (es : List (Entry ℕ)) (a : ℕ) → IsWhole k es → a < 2 ^ k → IsSome (field_at es a)
+
+-- each line of a whole list stands for some assignment, and gives each for which it stands its field
+abbrev pub WholeIsExact : Type 0
+WholeIsExact = (k : ℕ) (es : List (Entry ℕ)) (e : Entry ℕ) → IsWhole k es → IsLine e es → IsExact k es e
+
+-- the line with the number that is an assignment's field stands for it
+abbrev pub FieldIsLine : Type 0
+FieldIsLine = (w : ℕ) (cubes : List ℕ) (n a i : ℕ) → field_at (rows w 0 cubes 0 n) a ≡ Some i → (i < n) × (agrees (drop 0 (take w (drop (i * w) cubes))) a ≡ true)
+
+-- what the program asks of a location is what the rules say of its mark and its value
+abbrev pub TestsAreOfRules : Type 0
+TestsAreOfRules = (test : Test) (m : CertMark) (v : Option ℕ) → (meets test m v ≡ true) ↔ IsMetBy test (mark_of m) v

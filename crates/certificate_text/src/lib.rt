@@ -13,5 +13,5 @@ mod whole;
 pub use asking::asked;
 pub use fields::{read_bits, read_number};
 pub use laws::laws_of_asking;
-pub use marks::{CertMark, Level, Test};
+pub use marks::{CertMark, Levels, Lines, Question, Test, Way};
 pub use whole::is_whole;

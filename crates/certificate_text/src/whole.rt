@@ -36,20 +36,12 @@ fn zeros_end(cubes: &[u8], width: usize, from: usize, to: usize, depth: usize) -
     to
 }
 
-/// Whether the lines, of which the first characters aren't looked at, are whole.
-pub fn is_whole(
-    cubes: &[u8],
-    targets: &[Option<u32>],
-    width: usize,
-    from: usize,
-    to: usize,
-    depth: usize,
-) -> bool
+// Whether some of the lines, of which the first characters aren't looked at, are whole.
+fn is_whole_from(cubes: &[u8], width: usize, from: usize, to: usize, depth: usize) -> bool
     requires depth { depth ≤ width }
     requires order { from ≤ to }
-    requires within { to ≤ length targets.now }
-    requires wide { length cubes.now ≡ length targets.now * width }
-    ensures { IsTrue result ↔ IsWhole (width - depth) (rows width depth cubes.now targets.now from (to - from)) }
+    requires within { to * width ≤ length cubes.now }
+    ensures { IsTrue result ↔ IsWhole (width - depth) (rows width depth cubes.now from (to - from)) }
 {
     if depth == width {
         return to - from == 1;
@@ -58,14 +50,22 @@ pub fn is_whole(
         return false;
     }
     if all_have(cubes, width, from, to, depth, b'-') {
-        return is_whole(cubes, targets, width, from, to, depth + 1);
+        return is_whole_from(cubes, width, from, to, depth + 1);
     }
     let middle = zeros_end(cubes, width, from, to, depth);
     if !all_have(cubes, width, middle, to, depth, b'1') {
         return false;
     }
-    if !is_whole(cubes, targets, width, from, middle, depth + 1) {
+    if !is_whole_from(cubes, width, from, middle, depth + 1) {
         return false;
     }
-    is_whole(cubes, targets, width, middle, to, depth + 1)
+    is_whole_from(cubes, width, middle, to, depth + 1)
+}
+
+/// Whether so many cubes, one after another, are whole, whatever stands behind them.
+pub fn is_whole(cubes: &[u8], width: usize, count: usize) -> bool
+    requires { length cubes.now ≡ count * width }
+    ensures { IsTrue result ↔ IsWhole width (rows width 0 cubes.now 0 count) }
+{
+    is_whole_from(cubes, width, 0, count, 0)
 }
