@@ -2,7 +2,6 @@
 use Rattle.std.proofs.Common.{◌≡◌, ◌≢◌, ◌<◌, ◌⊎◌, arith, ℕ, inl, inr, List, [], length, sym, refl, ◌∙◌, ap, subst, Option}
 use Rattle.std.proofs.Math.Seq.{take-length}
 use Rattle.std.specs.Io.KnownBytes.{append_known}
-use Rattle.bes_io.specs.Causes.{Rose}
 use Rattle.command_endings.specs.declared.endings.Ending.{Ending}
 use Rattle.command_endings.specs.declared.endings.Ending.TheVariants.{Positive, Negative, Refused, OutsideFault, NoMemory}
 use Rattle.command_endings.specs.declared.endings.Refusal.{Refusal}
@@ -36,6 +35,10 @@ number-is Negative err told was now number (inr u) = inr u.status
 number-is (Refused r) err told was now number (inr u) = inr u.status
 number-is OutsideFault err told was now number (inr u) = inr u.status
 number-is NoMemory err told was now number (inr u) = inl u.status
+
+-- the status of an answer is the ending's
+pub answer-is : (ending : Ending) (err told : Option (List ℕ)) (was now number : ℕ) → Finishes ending err was told now number → number < 2 → number ≡ status_of ending
+answer-is ending err told was now number f few = elim (number-is ending err told was now number f) [ inl is ↦ is | inr is ↦ absurd (omega (arith, is, few)) ]
 
 -- what a command makes of its output is what the run makes of it
 pub writes-run : {O : Type 0} (put : O → List ℕ → O → Type 0) (task : Task) (before after : World) (old new : O) (number status : ℕ)

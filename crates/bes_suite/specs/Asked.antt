@@ -1,14 +1,15 @@
 -- What the words ask for: one line a command.
 use Rattle.std.specs.Prelude.{◌≡◌, ℕ, List, false, None}
 use Rattle.command_endings.specs.declared.endings.Refusal.TheVariants as refusal
-use Rattle.command_endings.specs.Replies.{Reply, refusing}
+use Rattle.command_endings.specs.Replies.{refusing}
 use Rattle.command_endings.specs.Tasks.{Task}
 use Rattle.judge_command.specs.Judge.{judge_task}
 use Rattle.forms_command.specs.Showing.{forms_task}
 use Rattle.translate_command.specs.Translation.{translate_task}
 use Rattle.monitor_command.specs.Monitoring.{monitor_task}
+use Rattle.synth_command.specs.Synthesis.{synth_task}
 use Rattle.bes_suite.specs.declared.commands.Command.{Command}
-use Rattle.bes_suite.specs.declared.commands.Command.TheVariants.{Usage, Judge, Forms, Translate, Monitor}
+use Rattle.bes_suite.specs.declared.commands.Command.TheVariants.{Usage, Judge, Forms, Translate, Monitor, Synth}
 use Rattle.bes_suite.specs.Commands.{command_of, word_at}
 
 -- words that are none of the listed forms are refused, and nothing is accepted
@@ -30,6 +31,7 @@ task_as (Judge dialect) words = judge_task dialect (word_at words 2)
 task_as (Forms dialect) words = forms_task dialect (word_at words 2)
 task_as (Translate dialect) words = translate_task dialect (word_at words 2)
 task_as (Monitor dialect) words = monitor_task dialect (word_at words 2)
+task_as Synth words = synth_task (word_at words 1)
 
 -- the task of the words
 abbrev pub task_of : List (List ℕ) → Task

@@ -5,7 +5,7 @@ use Rattle.std.specs.Str.{bytes_eq}
 use Rattle.form_tokens.specs.declared.dialect.Dialect.{Dialect}
 use Rattle.form_tokens.specs.declared.dialect.Dialect.TheVariants.{Ltlf, Ldlf}
 use Rattle.bes_suite.specs.declared.commands.Command.{Command}
-use Rattle.bes_suite.specs.declared.commands.Command.TheVariants.{Usage, Judge, Forms, Translate, Monitor}
+use Rattle.bes_suite.specs.declared.commands.Command.TheVariants.{Usage, Judge, Forms, Translate, Monitor, Synth}
 
 -- a word of the command line, counted from 0
 abbrev pub word_at : List (List ℕ) → ℕ → List ℕ
@@ -28,9 +28,16 @@ abbrev pub command_with : List ℕ → Option Dialect → Command
 command_with word None = Usage
 command_with word (Some dialect) = command_in word dialect
 
--- what so many words ask for, of which these are the first two: three are a command, a dialect and a formula
+-- the command that a word names, on a file
+abbrev pub command_on : List ℕ → Command
+command_on word = if bytes_eq word (codes "synth") then Synth else Usage
+
+-- what so many words ask for, of which these are the first two: two are a command and a file, three a command, a dialect and
+-- a formula
 abbrev pub command_named : ℕ → List ℕ → List ℕ → Command
-command_named count first second = if count == 3 then command_with first (dialect_of second) else Usage
+command_named count first second = if count == 2 then command_on first
+    else if count == 3 then command_with first (dialect_of second)
+    else Usage
 
 -- what the words ask for
 abbrev pub command_of : List (List ℕ) → Command

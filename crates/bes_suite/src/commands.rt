@@ -1,7 +1,7 @@
 //! The commands, by the words.
 ghost use Rattle.std.specs.Prelude.{◌≡◌};
 ghost use Rattle.std.specs.Str.{bytes_eq};
-ghost use Rattle.bes_suite.specs.Commands.{command_in, command_named, command_of, dialect_of, word_at};
+ghost use Rattle.bes_suite.specs.Commands.{command_in, command_named, command_of, command_on, dialect_of, word_at};
 
 use bes_io::Word;
 use form_tokens::Dialect;
@@ -19,6 +19,8 @@ pub enum Command {
     Translate(Dialect),
     /// The verdict of a formula of this dialect after each event.
     Monitor(Dialect),
+    /// The strategy of the specification in a file.
+    Synth,
 }
 
 /// Whether the word is this text.
@@ -58,10 +60,24 @@ fn find_command_in(word: &[u8], dialect: Dialect) -> Command
     }
 }
 
+/// The command that a word names, on a file.
+fn find_command_on(word: &[u8]) -> Command
+    ensures { result ≡ command_on word.now }
+{
+    if is_word(word, b"synth") {
+        Command::Synth
+    } else {
+        Command::Usage
+    }
+}
+
 /// The command of so many words, of which these are the first two.
 pub fn named_command(count: usize, first: &[u8], second: &[u8]) -> Command
     ensures { result ≡ command_named count first.now second.now }
 {
+    if count == 2 {
+        return find_command_on(first);
+    }
     if count != 3 {
         return Command::Usage;
     }

@@ -1,5 +1,5 @@
 //! The top call, which does all that the program does.
-ghost use Rattle.std.specs.Prelude.{◌≡◌, ℕ, ◌⊎◌, List, None};
+ghost use Rattle.std.specs.Prelude.{◌≡◌, ℕ, ◌<◌, ◌⊎◌, List, None};
 ghost use Rattle.forms.specs.Tree.{Formula};
 ghost use Rattle.command_endings.specs.Endings.{status_of};
 ghost use Rattle.command_endings.specs.Reading.{Reads};
@@ -7,8 +7,10 @@ ghost use Rattle.command_endings.specs.Tasks.{Performs};
 ghost use Rattle.command_endings.specs.Worlds.{FileFailed, world};
 ghost use Rattle.command_endings.specs.Writing.{Writes};
 ghost use Rattle.translate_command.specs.Translation.{IsTranslation, IsOnlyTranslation};
+ghost use Rattle.synth_command.specs.Promised.{PrintsStrategy};
+ghost use Rattle.synth_command.specs.Synthesis.{FileHolds};
 ghost use Rattle.bes_suite.specs.Asked.{task_of};
-ghost use Rattle.bes_suite.specs.Commands.{command_of};
+ghost use Rattle.bes_suite.specs.Commands.{command_of, word_at};
 ghost use Rattle.bes_suite.specs.Results.{IsAnswered, AsksForOne, IsComplete, HasFaultCause, CountsStand, IsPartial, IsStreamed, PutsMessages, KeepsFiles, IsReadSoFar};
 
 use crate::commands::{Command, find_command};
@@ -18,6 +20,7 @@ use forms_command::show_formula;
 use judge_command::judge_formula;
 use monitor_command::monitor_formula;
 use std::alloc::Global;
+use synth_command::synthesise_file;
 use translate_command::translate_formula;
 
 /// Does what the words ask for, and tells how the run ends. It puts no message.
@@ -39,6 +42,8 @@ fn perform<F: Files, S: Source, O: Sink>(
     ensures usage { command_of words.now ≡ Command.Usage → result ≡ Ending.Refused Refusal.Usage }
     ensures unopened { (task_of words.now).file ≡ None → files.new ≡ files.old }
     ensures unread { FileFailed (task_of words.now).file (F.failed files.old) (F.failed files.new) → input.new ≡ input.old }
+    ensures headline { command_of words.now ≡ Command.Synth → status_of result < 2 →
+        FileHolds (F.contents files.old) (word_at words.now 1) (λ bytes. PrintsStrategy bytes (O.held out.old) (O.held out.new) (status_of result)) }
 {
     match find_command(words) {
         Command::Usage => Ending::Refused(Refusal::Usage),
@@ -48,6 +53,7 @@ fn perform<F: Files, S: Source, O: Sink>(
         Command::Monitor(dialect) => {
             monitor_formula(alloc, dialect, words[2].bytes(), input, out)
         }
+        Command::Synth => synthesise_file(alloc, &words[1], files, out),
     }
 }
 
@@ -76,6 +82,13 @@ pub fn run<F: Files, S: Source, O: Sink, E: Sink>(
     // The automaton that `translate` prints is fixed by the names and the traces, and so are the words that tell its
     // locations apart; none with these traces is smaller.
     ensures only_automaton { (names : List (List ℕ)) (f : Formula) (text : List ℕ) (t : IsTranslation names f text) → IsOnlyTranslation names f text t }
+
+    // For every specification `synth` prints a strategy which, at every history that it and a legal environment can reach, wins
+    // within the printed least number of rounds if any strategy can force the goal, and otherwise keeps a legal continuation
+    // that meets the goal wherever one exists, and the duty wherever it can; if the goal can't be forced from the start, the
+    // printed answers of the environment refute every number of rounds.
+    ensures headline { command_of words.now ≡ Command.Synth → result.number < 2 →
+        FileHolds (F.contents files.old) (word_at words.now 1) (λ bytes. PrintsStrategy bytes (O.held out.old) (O.held out.new) result.number) }
 
     // Status 7 comes only where a count of faults rose, or stands at its end, 2^64 - 1, or the named file failed: of the
     // input only where it came to be asked, of the place for messages only where a message was asked for.

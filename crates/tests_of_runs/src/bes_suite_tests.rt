@@ -1,5 +1,7 @@
 //! Worked lines: what each command puts and answers, and each refusal.
-use crate::runs::{AFTER_TEN, ALWAYS_A, NO_FAULTS, TOO_MANY, UNFINISHED, USAGE, check, ends};
+use crate::runs::{
+    AFTER_TEN, ALWAYS_A, NO_FAULTS, TOO_MANY, UNFINISHED, USAGE, check, ends, ends_by_a_fault,
+};
 use std::test::Fail;
 use test_support::{NAMES, repeated};
 
@@ -106,13 +108,15 @@ fn a_run_is_refused(rt: HostRuntime) -> Result<(), Fail> {
     Ok(())
 }
 
-const WRONG: [&[&str]; 6] = [
+const WRONG: [&[&str]; 8] = [
     &[],
     &["judge", "ltlf"],
     &["judge", "mtl", "a"],
     &["monitor", "mtl", "a"],
     &["demo", "7"],
     &["check", "x"],
+    &["synth"],
+    &["synth", "a", "b"],
 ];
 
 #[test]
@@ -127,6 +131,14 @@ fn wrong_words_get_the_usage_line(rt: HostRuntime) -> Result<(), Fail> {
             &ends(b"", USAGE, 2),
         )?;
     }
+    Ok(())
+}
+
+#[test]
+fn a_missing_specification_is_a_fault(rt: HostRuntime) -> Result<(), Fail> {
+    let words = ["synth", "nofile"];
+    let wanted = ends_by_a_fault(b"");
+    check(&rt, rt.alloc(), &words, b"", &NO_FAULTS, &wanted)?;
     Ok(())
 }
 

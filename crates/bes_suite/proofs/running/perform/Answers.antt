@@ -1,4 +1,4 @@
-use Rattle.std.proofs.Common.{◌≡◌, arith, sym, ◌∙◌, refl, subst, rules, ◌<◌, length, []}
+use Rattle.std.proofs.Common.{◌≡◌, arith, sym, ◌∙◌, refl, subst, rules, ◌<◌, length, [], None}
 use Rattle.std.proofs.lemmas.List.{get_or_default}
 use Rattle.command_endings.specs.declared.endings.Ending.TheVariants.{Refused}
 use Rattle.command_endings.specs.declared.endings.Refusal.TheVariants.{Usage}
@@ -14,8 +14,10 @@ use Rattle.judge_command.specs.Judge.{judge_task}
 use Rattle.forms_command.specs.Showing.{forms_task}
 use Rattle.translate_command.specs.Translation.{translate_task}
 use Rattle.monitor_command.specs.Monitoring.{monitor_task}
+use Rattle.synth_command.specs.Promised.{PrintsStrategy}
+use Rattle.synth_command.specs.Synthesis.{FileHolds, synth_task}
 use Rattle.bes_suite.specs.declared.commands.Command.TheVariants as command
-use Rattle.bes_suite.specs.Asked.{task_as, usage_task}
+use Rattle.bes_suite.specs.Asked.{usage_task}
 use Rattle.bes_suite.specs.Commands.{word_at}
 use Rattle.bes_suite.proofs.RunLemmas.{as-asked}
 use Rattle.bes_suite.proofs.running.perform.Goals as goal
@@ -140,3 +142,37 @@ pub returns-in-Monitor-clause-unread : goal.returns-in-Monitor-clause-unread
 returns-in-Monitor-clause-unread g c =
     as-asked (λ t. FileFailed t.file (g.F.Files.failed c.args.files.now) (g.F.Files.failed c.args.files.now) → c.monitor_formula.new.input ≡ c.args.input.now) c.args.words.now (command.Monitor c.in-Monitor.dialect) (sym (sym c.find_command.ensures ∙ c.in-Monitor.is))
     (λ failed. absurd failed)
+
+pub returns-in-Synth-clause-performs : goal.returns-in-Synth-clause-performs
+returns-in-Synth-clause-performs g c =
+    let many : 1 < length c.args.words.now = search rules in
+    let name : c.index-words-1.result ≡ word_at c.args.words.now 1 = c.index-words-1.is ∙ get_or_default c.args.words.now 1 c.index-words-1.result [] many in
+    as-asked (λ t. Performs t (world (g.F.Files.contents c.args.files.now) (g.F.Files.failed c.args.files.now) (g.S.Source.left c.args.input.now) (g.S.Source.faults c.args.input.now) (g.O.Sink.held c.args.out.now) (g.O.Sink.faults c.args.out.now))
+    (world (g.F.Files.contents c.synthesise_file.new.files) (g.F.Files.failed c.synthesise_file.new.files) (g.S.Source.left c.args.input.now) (g.S.Source.faults c.args.input.now) (g.O.Sink.held c.synthesise_file.new.out) (g.O.Sink.faults c.synthesise_file.new.out)) c.synthesise_file.result) c.args.words.now command.Synth (sym (sym c.find_command.ensures ∙ c.in-Synth.is))
+    (subst (λ t. Performs (synth_task t) (world (g.F.Files.contents c.args.files.now) (g.F.Files.failed c.args.files.now) (g.S.Source.left c.args.input.now) (g.S.Source.faults c.args.input.now) (g.O.Sink.held c.args.out.now) (g.O.Sink.faults c.args.out.now))
+    (world (g.F.Files.contents c.synthesise_file.new.files) (g.F.Files.failed c.synthesise_file.new.files) (g.S.Source.left c.args.input.now) (g.S.Source.faults c.args.input.now) (g.O.Sink.held c.synthesise_file.new.out) (g.O.Sink.faults c.synthesise_file.new.out)) c.synthesise_file.result) name (c.synthesise_file.ensures.performs _ _))
+
+pub returns-in-Synth-clause-writes : goal.returns-in-Synth-clause-writes
+returns-in-Synth-clause-writes g c =
+    let many : 1 < length c.args.words.now = search rules in
+    let name : c.index-words-1.result ≡ word_at c.args.words.now 1 = c.index-words-1.is ∙ get_or_default c.args.words.now 1 c.index-words-1.result [] many in
+    as-asked (λ t. Writes g.O.Sink.IsPut t (world (g.F.Files.contents c.args.files.now) (g.F.Files.failed c.args.files.now) (g.S.Source.left c.args.input.now) (g.S.Source.faults c.args.input.now) (g.O.Sink.held c.args.out.now) (g.O.Sink.faults c.args.out.now))
+    (world (g.F.Files.contents c.synthesise_file.new.files) (g.F.Files.failed c.synthesise_file.new.files) (g.S.Source.left c.args.input.now) (g.S.Source.faults c.args.input.now) (g.O.Sink.held c.synthesise_file.new.out) (g.O.Sink.faults c.synthesise_file.new.out)) c.args.out.now c.synthesise_file.new.out (status_of c.synthesise_file.result)) c.args.words.now command.Synth (sym (sym c.find_command.ensures ∙ c.in-Synth.is))
+    (subst (λ t. Writes g.O.Sink.IsPut (synth_task t) (world (g.F.Files.contents c.args.files.now) (g.F.Files.failed c.args.files.now) (g.S.Source.left c.args.input.now) (g.S.Source.faults c.args.input.now) (g.O.Sink.held c.args.out.now) (g.O.Sink.faults c.args.out.now))
+    (world (g.F.Files.contents c.synthesise_file.new.files) (g.F.Files.failed c.synthesise_file.new.files) (g.S.Source.left c.args.input.now) (g.S.Source.faults c.args.input.now) (g.O.Sink.held c.synthesise_file.new.out) (g.O.Sink.faults c.synthesise_file.new.out)) c.args.out.now c.synthesise_file.new.out (status_of c.synthesise_file.result)) name (c.synthesise_file.ensures.writes _ _))
+
+pub returns-in-Synth-clause-reads : goal.returns-in-Synth-clause-reads
+returns-in-Synth-clause-reads g c =
+    as-asked (λ t. Reads g.S.Source.faults g.S.Source.IsTaken t (world (g.F.Files.contents c.args.files.now) (g.F.Files.failed c.args.files.now) (g.S.Source.left c.args.input.now) (g.S.Source.faults c.args.input.now) (g.O.Sink.held c.args.out.now) (g.O.Sink.faults c.args.out.now)) c.args.input.now c.args.input.now (status_of c.synthesise_file.result)) c.args.words.now command.Synth (sym (sym c.find_command.ensures ∙ c.in-Synth.is))
+    (reads-none g.S.Source.faults g.S.Source.IsTaken (synth_task (word_at c.args.words.now 1)) (world (g.F.Files.contents c.args.files.now) (g.F.Files.failed c.args.files.now) (g.S.Source.left c.args.input.now) (g.S.Source.faults c.args.input.now) (g.O.Sink.held c.args.out.now) (g.O.Sink.faults c.args.out.now)) c.args.input.now c.args.input.now (status_of c.synthesise_file.result) refl (λ files told is may. may))
+
+pub returns-in-Synth-clause-unopened : goal.returns-in-Synth-clause-unopened
+returns-in-Synth-clause-unopened g c =
+    as-asked (λ t. t.file ≡ None → c.synthesise_file.new.files ≡ c.args.files.now) c.args.words.now command.Synth (sym (sym c.find_command.ensures ∙ c.in-Synth.is)) (λ e. cc)
+
+pub returns-in-Synth-clause-headline : goal.returns-in-Synth-clause-headline
+returns-in-Synth-clause-headline g c asked few =
+    let many : 1 < length c.args.words.now = search rules in
+    let name : c.index-words-1.result ≡ word_at c.args.words.now 1 = c.index-words-1.is ∙ get_or_default c.args.words.now 1 c.index-words-1.result [] many in
+    subst (λ t. FileHolds (g.F.Files.contents c.args.files.now) t (λ bytes. PrintsStrategy bytes (g.O.Sink.held c.args.out.now) (g.O.Sink.held c.synthesise_file.new.out) (status_of c.synthesise_file.result))) name
+    (c.synthesise_file.ensures.headline few)

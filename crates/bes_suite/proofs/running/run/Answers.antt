@@ -1,9 +1,13 @@
+use Rattle.std.proofs.Common.{◌<◌, sym, subst}
 use Rattle.command_endings.specs.Endings.{status_of}
 use Rattle.command_endings.specs.Worlds.{world}
 use Rattle.translate_command.proofs.TranslationLemmas.{only-translation}
+use Rattle.synth_command.specs.Promised.{PrintsStrategy}
+use Rattle.synth_command.specs.Synthesis.{FileHolds}
 use Rattle.bes_suite.specs.Asked.{task_of}
+use Rattle.bes_suite.specs.Commands.{word_at}
 use Rattle.bes_suite.proofs.Unique.{one-reply, all-answered}
-use Rattle.bes_suite.proofs.RunLemmas.{answers, complete, fault-cause, counts-stand, partly, messages, writes-run, reads-run, far-run, number-is}
+use Rattle.bes_suite.proofs.RunLemmas.{answers, complete, fault-cause, counts-stand, partly, messages, writes-run, reads-run, far-run, number-is, answer-is}
 use Rattle.bes_suite.proofs.running.run.Goals as goal
 
 pub returns-clause-one : goal.returns-clause-one
@@ -88,3 +92,9 @@ returns-clause-far g c =
     (world (g.F.Files.contents c.perform-ending.new.files) (g.F.Files.failed c.perform-ending.new.files) (g.S.Source.left c.perform-ending.new.input) (g.S.Source.faults c.perform-ending.new.input) (g.O.Sink.held c.perform-ending.new.out) (g.O.Sink.faults c.perform-ending.new.out))
     c.perform-ending.result c.finish.result.number
     (number-is c.perform-ending.result (g.E.Sink.held c.args.err.now) (g.E.Sink.held c.finish.new.err) (g.E.Sink.faults c.args.err.now) (g.E.Sink.faults c.finish.new.err) c.finish.result.number c.finish.ensures.finishes) c.perform-ending.ensures.performs
+
+pub returns-clause-headline : goal.returns-clause-headline
+returns-clause-headline g c asked few =
+    let is = answer-is c.perform-ending.result (g.E.Sink.held c.args.err.now) (g.E.Sink.held c.finish.new.err) (g.E.Sink.faults c.args.err.now) (g.E.Sink.faults c.finish.new.err) c.finish.result.number c.finish.ensures.finishes few in
+    subst (λ n. FileHolds (g.F.Files.contents c.args.files.now) (word_at c.args.words.now 1) (λ bytes. PrintsStrategy bytes (g.O.Sink.held c.args.out.now) (g.O.Sink.held c.perform-ending.new.out) n)) (sym is)
+    (c.perform-ending.ensures.headline asked (subst (λ n. n < 2) is few))
