@@ -1,0 +1,1 @@
+bes synth examples/pump.spec

@@ -1,0 +1,1 @@
+bes synth examples/no_such_file.spec

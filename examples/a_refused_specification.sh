@@ -1,0 +1,1 @@
+bes synth examples/a_name_given_twice.spec

@@ -1,0 +1,1 @@
+bes synth examples/an_assumption_on_the_agent.spec
